@@ -1,0 +1,6 @@
+pub mod Plan
+pub mod Verdict
+pub mod Table
+pub mod Yard
+pub mod Tick
+pub mod Run
