@@ -4,3 +4,5 @@ pub mod Table
 pub mod Yard
 pub mod Tick
 pub mod Run
+pub mod Worked
+pub mod Theorems
