@@ -7,6 +7,7 @@ use mathlib.Core.Logic.{_↔_}
 use mathlib.Core.Bool.{Bool, true, false, not, _&&_, _||_, cond, true≢false, false≢true}
 use mathlib.Core.List.{List, [], _∷_}
 use lib.Dec.{leb, ltb, eqb}
+use lib.ListN.{getD}
 use borrow.Author.Tests.{ltb-true, ltb-false, leb-true, leb-false, eqb-true, eqb-false, lt-ltb, le-ltb, le-leb, lt-leb, eq-eqb, ne-eqb, not-true, not-false}
 use Rattle.laws.specs.Tests.{allOf, anyOf, each, lowest}
 
@@ -79,6 +80,12 @@ pub none-of : (bs : List Bool) → NoneHolds bs → anyOf bs ≡ false
 unfolding anyOf
 none-of [] h = refl
 none-of (b ∷ bs) h = or-of (h .0) (none-of bs (h .1))
+
+-- No test of a list holds, at whichever place one looks.
+pub none-at : (bs : List Bool) → NoneHolds bs → (k : ℕ) → getD bs k false ≡ false
+none-at [] h k = refl
+none-at (b ∷ bs) h zero = h .0
+none-at (b ∷ bs) h (suc k) = none-at bs (h .1) k
 
 -- The test holds at each of 1 to n.
 module _ (test : ℕ → Bool) where

@@ -14,7 +14,7 @@ use Rattle.rules.specs.Verdict.{refusedIf, firstRefusal}
 use Rattle.rules.specs.Plan.{slot, stay, LS, isTime, isDevice, isPair, isAbove}
 
 -- Asked at an index of its own, a condition does not hold.
-abbrev pub fails : Bool → Bool → Bool
+unfoldable pub fails : Bool → Bool → Bool
 fails asked holds = asked && not holds
 
 -- Each of these is a time, 1 to 36,000.

@@ -1,10 +1,68 @@
--- What keeps the definitions honest: statements, each proved in proofs/ under the name that its comment gives.
+-- What keeps the definitions honest: statements for a reader to hold against document 01, each proved in proofs/ under the
+-- name that stands beside it.
 use Prim.Native.Nat.{ℕ, _+_, _-_, _*_, _≤_, _<_}
 use mathlib.Core.Path.{_≡_}
 use mathlib.Core.Logic.{_↔_, _⊎_}
 use mathlib.Core.Bool.{Bool, true, false}
 use mathlib.Core.List.{List, map, _++_}
+use lib.ListN.{drop, take}
+use Rattle.laws.specs.Bits.{bit}
+use Rattle.rules.specs.declared.Plan.{Plan}
+use Rattle.rules.specs.declared.Yard.{Yard}
+use Rattle.rules.specs.declared.Record.{Record}
+use Rattle.rules.specs.declared.Place.the-variants.{Running, Exiting1}
+use Rattle.rules.specs.declared.Verdict.the-variants.{Accepted, Refused}
+use Rattle.rules.specs.Plan.{slot, stay, LS, emptySlot}
+use Rattle.rules.specs.Table.{broken, planVerdict}
+use Rattle.rules.specs.Yard.{device, wellFormed}
+use Rattle.rules.specs.Tick.{tick}
+use Rattle.rules.specs.Tick.Input.{validRecord}
+use Rattle.rules.specs.Run.{records, after, engagedByte, engagedBytes, runAnswer, runBuffer, runVerdict}
 use Rattle.rules.specs.Worked.{Case, answer, starred}
+
+-- All times are whole ticks, 1 to 36,000.
+pub record Time (t : ℕ) : Type 0 where
+  pub low : 1 ≤ t
+  pub high : t ≤ 36000
+
+-- What the table asks of a plan, in its order.
+pub record Accepts (p : Plan) : Type 0 where
+  -- 1: N is 2 to 8
+  pub devices : (2 ≤ p .N) × (p .N ≤ 8)
+  -- 2: c1: W, B, Q; F, E, R, X of each device; G, S of each but device N
+  pub yardTimes : Time (p .W) × Time (p .B) × Time (p .Q)
+  pub deviceTimes :
+      (i : ℕ) → 1 ≤ i → i ≤ p .N → Time (slot p i .F) × Time (slot p i .E) × Time (slot p i .R) × Time (slot p i .X)
+  pub pairTimes : (i : ℕ) → 1 ≤ i → i < p .N → Time (slot p i .G) × Time (slot p i .S)
+  -- 3: device N has G = S = 0; the slots above N are all zero
+  pub lastSpacing : (slot p (p .N) .G ≡ 0) × (slot p (p .N) .S ≡ 0)
+  pub unused : (i : ℕ) → p .N < i → i ≤ 8 → slot p i ≡ emptySlot
+  -- 4: LS > N × W
+  pub c2 : p .N * p .W < LS p
+  -- 5: (N-1) × W < Q < LS
+  pub c3 : ((p .N - 1) * p .W < p .Q) × (p .Q < LS p)
+  -- 6: (i-1) × W + E + R + X of i ≤ LS
+  pub c4 : (i : ℕ) → 1 ≤ i → i ≤ p .N → (i - 1) * p .W + stay p i ≤ LS p
+  -- 7: E of i + G of i < E of i+1
+  pub c5 : (i : ℕ) → 1 ≤ i → i < p .N → slot p i .E + slot p i .G < slot p (i + 1) .E
+  -- 8: E + R of i > W + E + R + X of i+1
+  pub c6 : (i : ℕ) → 1 ≤ i → i < p .N → p .W + stay p (i + 1) < slot p i .E + slot p i .R
+  -- 9: X of i > S of i
+  pub c7 : (i : ℕ) → 1 ≤ i → i < p .N → slot p i .S < slot p i .X
+
+-- Accepted exactly when the table asks nothing in vain (`accepted-exactly`).
+abbrev pub AcceptedExactly : Type 0
+AcceptedExactly = (p : Plan) → (planVerdict p ≡ Accepted) ↔ Accepts p
+
+-- Line k is broken at i, no line before it is broken at any index, and line k at no lower index.
+pub record FirstBroken (p : Plan) (k i : ℕ) : Type 0 where
+  pub here : broken p k i ≡ true
+  pub noLineBefore : (m j : ℕ) → m < k → broken p m j ≡ false
+  pub noLowerIndex : (j : ℕ) → j < i → broken p k j ≡ false
+
+-- Refused with number k at index i exactly when line k is the first that is broken, and i its lowest index (`refused-exactly`).
+abbrev pub RefusedExactly : Type 0
+RefusedExactly = (p : Plan) (k i : ℕ) → (planVerdict p ≡ Refused k i) ↔ FirstBroken p k i
 
 -- Each starred case is answered as document 01 says (`worked-yards`).
 abbrev pub WorkedYards : Type 0
