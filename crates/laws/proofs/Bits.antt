@@ -27,7 +27,7 @@ unfolding bit
 bit-low b n k h =
     let m : ℕ = n - suc k in
     let split : 2 ^ n ≡ 2 ^ k * (2 ^ m * 2) =
-        ap (λ (j : ℕ). 2 ^ j) {x = n} {y = k + suc m} (omega arith) ∙ pow-add 2 k (suc m) ∙ ap (λ (x : ℕ). 2 ^ k * x) (pow-suc 2 m) in
+    ap (λ (j : ℕ). 2 ^ j) {x = n} {y = k + suc m} (omega arith) ∙ pow-add 2 k (suc m) ∙ ap (λ (x : ℕ). 2 ^ k * x) (pow-suc 2 m) in
     rw (split, add-mul-div-left b (2 ^ m * 2) (pow-pos k), add-mul-mod-self-right (b / 2 ^ k) (2 ^ m) 2)
 
 -- A number made of bits has those bits and no other.
@@ -53,6 +53,7 @@ module _ (test : ℕ → Bool) where
           case (test n)
           (λ t. rw t (bit-top (ofBits test n) n h))
           (λ t. rw (t, add-zero) (bit-above (ofBits test n) n h))
+
       low : (n k : ℕ) → k < n → bit (ofBits test n + cond (test n) (2 ^ n) 0) k ≡ bit (ofBits test n) k
       low n k h = case (test n) (λ t. rw t (bit-low (ofBits test n) n k h)) (λ t. rw (t, add-zero))
 
@@ -65,15 +66,16 @@ unfolding bit
 no-bits =
     bin-ind (λ (b : ℕ). ((k : ℕ) → bit b k ≡ false) → b ≡ 0) (λ none. refl)
     (λ n half none.
-        let h : n / 2 ≡ 0 = half (λ k. rw (shr-shr n 1 k) (none (1 + k))) in
-        let l : n % 2 ≡ 1 → ⊥ = eqb-false (n % 2) 1 (rw div-one at (none 0)) in
-        omega arith)
+    let h : n / 2 ≡ 0 = half (λ k. rw (shr-shr n 1 k) (none (1 + k))) in
+    let l : n % 2 ≡ 1 → ⊥ = eqb-false (n % 2) 1 (rw div-one at (none 0)) in
+    omega arith)
 
 -- Bits k and up are zero exactly when the number is below 2 ^ k.
 pub clear-exactly : (k b : ℕ) → (clearFrom k b ≡ true) ↔ ((j : ℕ) → k ≤ j → bit b j ≡ false)
 unfolding clearFrom bit
-clear-exactly k b =
-    (λ c j h. bit-above b j (lt-of-lt-of-le (ltb-true b (2 ^ k) c) (pow-mono h)),
-    λ none.
-        let z : b / 2 ^ k ≡ 0 = no-bits (b / 2 ^ k) (λ j. rw (shr-shr b k j) (none (k + j) (omega arith))) in
-        lt-ltb b (2 ^ k) (rw one-mul at (div-lt-iff-lt-mul {x = b} {y = 1} (pow-pos k) .0 (omega arith))))
+clear-exactly k b = (
+  λ c j h. bit-above b j (lt-of-lt-of-le (ltb-true b (2 ^ k) c) (pow-mono h)),
+  λ none.
+      let z : b / 2 ^ k ≡ 0 = no-bits (b / 2 ^ k) (λ j. rw (shr-shr b k j) (none (k + j) (omega arith))) in
+      lt-ltb b (2 ^ k) (rw one-mul at (div-lt-iff-lt-mul {x = b} {y = 1} (pow-pos k) .0 (omega arith))),
+)

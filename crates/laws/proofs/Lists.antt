@@ -23,7 +23,7 @@ module _ {A : Type 0} (f : ℕ → A) where
   tabulate-at (suc n) i d low high =
       case (eqb i (suc n))
       (λ e. rw (eqb-true i (suc n) e)
-          (getD-at (tabulate f n) (f (suc n)) [] d (suc n - 1) (tabulate-length n ∙ omega arith)))
+      (getD-at (tabulate f n) (f (suc n)) [] d (suc n - 1) (tabulate-length n ∙ omega arith)))
       (λ e.
-          List·getD-append (tabulate f n) (f (suc n) ∷ []) d (i - 1) (omega (tests, tabulate-length n))
-          ∙ tabulate-at n i d low (omega tests))
+      List·getD-append (tabulate f n) (f (suc n) ∷ []) d (i - 1) (omega (tests, tabulate-length n))
+      ∙ tabulate-at n i d low (omega tests))

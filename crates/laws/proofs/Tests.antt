@@ -23,6 +23,12 @@ module _ {ℓ} {A : Type ℓ} where
   pub clash : {b : Bool} → b ≡ true → b ≡ false → A
   clash t f = absurd (true≢false (sym t ∙ f))
 
+-- What holds of both choices holds of the choice.
+pub on-cond {ℓ κ} :
+    {A : Type ℓ} (P : A → Type κ) (b : Bool) {x y : A} → (b ≡ true → P x) → (b ≡ false → P y) → P (cond b x y)
+on-cond P true this that = this refl
+on-cond P false this that = that refl
+
 pub not-of : {b : Bool} → b ≡ false → not b ≡ true
 not-of {b = true} e = absurd (true≢false e)
 not-of {b = false} e = refl
@@ -121,11 +127,11 @@ module _ (test : ℕ → Bool) where
       case (ltb (lowest test n) n)
       (λ s. rw s (λ h. lowest-none n i h))
       (λ s.
-          let le : n ≤ lowest test n = ltb-false _ _ s in
-          case (test n)
-          (λ t. rw (s, t) (λ h. lowest-none n i (omega arith)))
-          (λ t. rw (s, t) (λ h.
-              case (eqb i n) (λ e. rw (eqb-true i n e) t) (λ e. lowest-none n i (omega tests)))))
+      let le : n ≤ lowest test n = ltb-false _ _ s in
+      case (test n)
+      (λ t. rw (s, t) (λ h. lowest-none n i (omega arith)))
+      (λ t. rw (s, t) (λ h.
+      case (eqb i n) (λ e. rw (eqb-true i n e) t) (λ e. lowest-none n i (omega tests)))))
 
   pub lowest-holds : (n : ℕ) → lowest test n < n → test (lowest test n) ≡ true
   unfolding lowest
@@ -143,8 +149,8 @@ module _ (test : ℕ → Bool) where
       case (ltb i k)
       (λ s. clash here (lowest-none n i (ltb-true _ _ s)))
       (λ s. case (ltb k i)
-          (λ u. clash (lowest-holds n (omega tests)) (before k (ltb-true _ _ u)))
-          (λ u. omega tests))
+      (λ u. clash (lowest-holds n (omega tests)) (before k (ltb-true _ _ u)))
+      (λ u. omega tests))
 
   -- Where it holds nowhere, n is found.
   pub lowest-is-none : (n : ℕ) → ((j : ℕ) → j < n → test j ≡ false) → lowest test n ≡ n

@@ -96,18 +96,18 @@ module _ (p : Plan) where
     meets : Accepts p
     meets =
         record {
-            devices = size;
-            yardTimes = yard-times;
-            deviceTimes = device-times;
-            pairTimes = pair-times;
-            lastSpacing = last-spacing;
-            unused = unused;
-            c2 = c2;
-            c3 = c3;
-            c4 = c4;
-            c5 = c5;
-            c6 = c6;
-            c7 = c7
+          devices = size;
+          yardTimes = yard-times;
+          deviceTimes = device-times;
+          pairTimes = pair-times;
+          lastSpacing = last-spacing;
+          unused = unused;
+          c2 = c2;
+          c3 = c3;
+          c4 = c4;
+          c5 = c5;
+          c6 = c6;
+          c7 = c7;
         }
 
   -- And back: what the table asks keeps every line unbroken.
@@ -116,43 +116,66 @@ module _ (p : Plan) where
     unfolding line2
     times-kept i =
         let w = a .yardTimes in
-        none-of _
-        (kept (eqb i 0) _ (λ q. all-of _ (is-time _ (w .0), (is-time _ (w .1), (is-time _ (w .2), tt)))),
-        (kept (isDevice p i) _
-            (λ q.
+        none-of _ (
+          kept (eqb i 0) _ (λ q. all-of _ (is-time _ (w .0), (is-time _ (w .1), (is-time _ (w .2), tt)))),
+          (
+            kept (isDevice p i) _
+                (λ q.
                 let d = device-is p i q in
                 let s = a .deviceTimes i (d .0) (d .1) in
                 all-of _ (is-time _ (s .0), (is-time _ (s .1), (is-time _ (s .2), (is-time _ (s .3), tt))))),
-        (kept (isPair p i) _
-            (λ q.
-                let d = pair-is p i q in
-                let s = a .pairTimes i (d .0) (d .1) in
-                all-of _ (is-time _ (s .0), (is-time _ (s .1), tt))),
-        tt)))
+            (
+              kept (isPair p i) _
+                  (λ q.
+                  let d = pair-is p i q in
+                  let s = a .pairTimes i (d .0) (d .1) in
+                  all-of _ (is-time _ (s .0), (is-time _ (s .1), tt))),
+              tt,
+            ),
+          ),
+        )
 
     zeros-kept : (i : ℕ) → line3 p i ≡ false
     unfolding line3
     zeros-kept i =
-        none-of _
-        (kept (eqb i (p .N)) _
-            (λ q.
-                rw (eqb-true i (p .N) q)
-                (all-of _ (eq-eqb _ _ (sym (a .lastSpacing .0)), (eq-eqb _ _ (sym (a .lastSpacing .1)), tt)))),
-        (kept (isAbove p i) _ (λ q. let d = above-is p i q in rw (a .unused i (d .0) (d .1)) (all-of _ (refl, (refl, (refl, (refl, (refl, (refl, tt)))))))),
-        tt))
+        none-of _ (
+          kept (eqb i (p .N)) _
+              (λ q.
+              rw (eqb-true i (p .N) q)
+              (all-of _ (eq-eqb _ _ (sym (a .lastSpacing .0)), (eq-eqb _ _ (sym (a .lastSpacing .1)), tt)))),
+          (
+            kept (isAbove p i) _ (λ q. let d = above-is p i q in rw (a .unused i (d .0) (d .1)) (all-of _ (refl, (refl, (refl, (refl, (refl, (refl, tt)))))))),
+            tt,
+          ),
+        )
 
     unbroken-lines : (i : ℕ) → NoneHolds (table p i)
     unfolding table line1 line4 line5 line6 line7 line8 line9
-    unbroken-lines i =
-        (kept (eqb i 0) _ (λ q. all-of _ (le-leb _ _ (a .devices .0), (le-leb _ _ (a .devices .1), tt))),
-        (times-kept i,
-        (zeros-kept i,
-        (kept (eqb i 0) _ (λ q. lt-ltb _ _ (a .c2)),
-        (kept (eqb i 0) _ (λ q. all-of _ (lt-ltb _ _ (a .c3 .0), (lt-ltb _ _ (a .c3 .1), tt))),
-        (kept (isDevice p i) _ (λ q. let d = device-is p i q in le-leb _ _ (a .c4 i (d .0) (d .1))),
-        (kept (isPair p i) _ (λ q. let d = pair-is p i q in lt-ltb _ _ (a .c5 i (d .0) (d .1))),
-        (kept (isPair p i) _ (λ q. let d = pair-is p i q in lt-ltb _ _ (a .c6 i (d .0) (d .1))),
-        (kept (isPair p i) _ (λ q. let d = pair-is p i q in lt-ltb _ _ (a .c7 i (d .0) (d .1))), tt)))))))))
+    unbroken-lines i = (
+      kept (eqb i 0) _ (λ q. all-of _ (le-leb _ _ (a .devices .0), (le-leb _ _ (a .devices .1), tt))),
+      (
+        times-kept i,
+        (
+          zeros-kept i,
+          (
+            kept (eqb i 0) _ (λ q. lt-ltb _ _ (a .c2)),
+            (
+              kept (eqb i 0) _ (λ q. all-of _ (lt-ltb _ _ (a .c3 .0), (lt-ltb _ _ (a .c3 .1), tt))),
+              (
+                kept (isDevice p i) _ (λ q. let d = device-is p i q in le-leb _ _ (a .c4 i (d .0) (d .1))),
+                (
+                  kept (isPair p i) _ (λ q. let d = pair-is p i q in lt-ltb _ _ (a .c5 i (d .0) (d .1))),
+                  (
+                    kept (isPair p i) _ (λ q. let d = pair-is p i q in lt-ltb _ _ (a .c6 i (d .0) (d .1))),
+                    (kept (isPair p i) _ (λ q. let d = pair-is p i q in lt-ltb _ _ (a .c7 i (d .0) (d .1))), tt),
+                  ),
+                ),
+              ),
+            ),
+          ),
+        ),
+      ),
+    )
 
   pub accepted-lines : planVerdict p ≡ Accepted → (k i : ℕ) → i < 9 → broken p k i ≡ false
   unfolding planVerdict broken
@@ -160,12 +183,13 @@ module _ (p : Plan) where
   accepted-lines e (suc k) i h =
       case (leb (suc k) 9)
       (λ few.
-          line-accepted p (suc k)
-          (all-accepted (lineVerdict p) 9 e (suc k) (omega arith) (leb-true _ _ few)) i h)
+      line-accepted p (suc k)
+      (all-accepted (lineVerdict p) 9 e (suc k) (omega arith) (leb-true _ _ few)) i h)
       (λ many. no-line p (suc k) i (omega tests))
 
 pub accepted-exactly : AcceptedExactly
 unfolding planVerdict
-accepted-exactly p =
-    (λ e. meets p (accepted-lines p e),
-    λ a. none-refused (lineVerdict p) 9 (λ k low high. accepted-line p k (λ i h. unbroken p i (unbroken-lines p a i) k)))
+accepted-exactly p = (
+  λ e. meets p (accepted-lines p e),
+  λ a. none-refused (lineVerdict p) 9 (λ k low high. accepted-line p k (λ i h. unbroken p i (unbroken-lines p a i) k)),
+)

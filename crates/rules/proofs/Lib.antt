@@ -2,4 +2,10 @@ pub mod Verdicts
 pub mod Table
 pub mod Accepted
 pub mod Refused
+pub mod Formed
+pub mod Views
+pub mod Keeps
+pub mod Splits
+pub mod Engaged
+pub mod Valid
 pub mod Worked

@@ -30,10 +30,11 @@ module _ (p : Plan) where
   in-range zero i here before = clash here refl
   in-range (suc zero) i here before = (omega arith, omega arith, omega (arith, only-zero i here))
   in-range (suc (suc k)) i here before =
-      let few : p .N ≤ 8 = few-devices (before 1 0 (omega arith)) in
-      (omega arith,
-      case (leb (suc (suc k)) 9) (leb-true _ 9) (λ q. clash here (no-line p (suc (suc k)) i (omega tests))),
-      case (ltb i 9) (ltb-true i 9) (λ q. clash here (beyond p few i (omega tests) (suc (suc k)))))
+      let few : p .N ≤ 8 = few-devices (before 1 0 (omega arith)) in (
+        omega arith,
+        case (leb (suc (suc k)) 9) (leb-true _ 9) (λ q. clash here (no-line p (suc (suc k)) i (omega tests))),
+        case (ltb i 9) (ltb-true i 9) (λ q. clash here (beyond p few i (omega tests) (suc (suc k)))),
+      )
 
   earlier : (k : ℕ) → ((m : ℕ) → 1 ≤ m → m < k → lineVerdict p m ≡ Accepted) → (m j : ℕ) → m < k → broken p m j ≡ false
   unfolding broken

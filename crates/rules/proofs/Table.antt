@@ -82,14 +82,17 @@ module _ (p : Plan) where
   beyond few i far =
       let yard : (h : Bool) → fails (eqb i 0) h ≡ false = λ h. kept _ h (λ a. absurd (omega (tests, eqb-true i 0 a))) in
       let last : (h : Bool) → fails (eqb i (p .N)) h ≡ false =
-          λ h. kept _ h (λ a. absurd (omega (tests, eqb-true i (p .N) a))) in
+      λ h. kept _ h (λ a. absurd (omega (tests, eqb-true i (p .N) a))) in
       let dev : (h : Bool) → fails (isDevice p i) h ≡ false = λ h. kept _ h (λ a. absurd (omega (arith, device-is p i a))) in
       let pair : (h : Bool) → fails (isPair p i) h ≡ false = λ h. kept _ h (λ a. absurd (omega (arith, pair-is p i a))) in
       let above : (h : Bool) → fails (isAbove p i) h ≡ false = λ h. kept _ h (λ a. absurd (omega (arith, above-is p i a))) in
-      unbroken i
-      (yard _,
-      (none-of _ (yard _, (dev _, (pair _, tt))),
-      (none-of _ (last _, (above _, tt)), (yard _, (yard _, (dev _, (pair _, (pair _, (pair _, tt)))))))))
+      unbroken i (
+        yard _,
+        (
+          none-of _ (yard _, (dev _, (pair _, tt))),
+          (none-of _ (last _, (above _, tt)), (yard _, (yard _, (dev _, (pair _, (pair _, (pair _, tt))))))),
+        ),
+      )
 
   -- A line's verdict: accepted where it is broken at none of 0 to 8, else refused at its lowest index.
   pub line-accepted : (k : ℕ) → lineVerdict p k ≡ Accepted → (i : ℕ) → i < 9 → broken p k i ≡ false
@@ -111,11 +114,12 @@ module _ (p : Plan) where
       let n : ℕ = lowest (broken p k) 9 in
       let h = refused-if (ltb n 9) k n m i e in
       let at : n ≡ i = h .2 in
-      let less : n < 9 = ltb-true n 9 (h .0) in
-      (h .1,
-      omega arith,
-      rw at at (lowest-holds (broken p k) 9 less),
-      λ j l. lowest-none (broken p k) 9 j (omega arith))
+      let less : n < 9 = ltb-true n 9 (h .0) in (
+        h .1,
+        omega arith,
+        rw at at (lowest-holds (broken p k) 9 less),
+        λ j l. lowest-none (broken p k) 9 j (omega arith),
+      )
 
   pub refused-line :
       (k i : ℕ) → i < 9 → broken p k i ≡ true → ((j : ℕ) → j < i → broken p k j ≡ false) → lineVerdict p k ≡ Refused k i

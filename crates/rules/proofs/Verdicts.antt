@@ -70,8 +70,8 @@ module _ (f : ℕ → Verdict) where
       step n
       ∙ case (eqb k (suc n))
       (λ s.
-          let e : k ≡ suc n = eqb-true k (suc n) s in
-          rw (none-refused n (λ m l h. before m l (omega arith)), ← e) here)
+      let e : k ≡ suc n = eqb-true k (suc n) s in
+      rw (none-refused n (λ m l h. before m l (omega arith)), ← e) here)
       (λ s. rw (refused-at n k i low (omega tests) here before))
 
   module _ (numbered : (m k i : ℕ) → f m ≡ Refused k i → m ≡ k) where
@@ -84,10 +84,10 @@ module _ (f : ℕ → Verdict) where
         let last : firstOf (firstRefusal (tabulate f n)) (f (suc n)) ≡ Refused k i = sym (step n) ∙ e in
         by-verdict (firstRefusal (tabulate f n))
         (λ a.
-            let here : f (suc n) ≡ Refused k i = rw a at last in
-            let is : suc n ≡ k = numbered (suc n) k i here in
-            (omega arith, omega arith, rw is at here, λ m l h. all-accepted n a m l (omega arith)))
+        let here : f (suc n) ≡ Refused k i = rw a at last in
+        let is : suc n ≡ k = numbered (suc n) k i here in
+        (omega arith, omega arith, rw is at here, λ m l h. all-accepted n a m l (omega arith)))
         (λ q j r.
-            let same : firstRefusal (tabulate f n) ≡ Refused k i = r ∙ (rw r at last) in
-            let h = first-is n k i same in
-            (h .0, omega (arith, h .1), h .2, h .3))
+        let same : firstRefusal (tabulate f n) ≡ Refused k i = r ∙ (rw r at last) in
+        let h = first-is n k i same in
+        (h .0, omega (arith, h .1), h .2, h .3))

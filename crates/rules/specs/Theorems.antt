@@ -67,3 +67,41 @@ RefusedExactly = (p : Plan) (k i : ℕ) → (planVerdict p ≡ Refused k i) ↔ 
 -- Each starred case is answered as document 01 says (`worked-yards`).
 abbrev pub WorkedYards : Type 0
 WorkedYards = map (λ (c : Case). answer (c .question)) starred ≡ map (λ (c : Case). c .says) starred
+
+-- Under an accepted plan a tick keeps a well-formed state well formed: any such state, not only a reachable one, and on
+-- any record, valid or not (`tick-keeps-form`).
+abbrev pub TickKeepsForm : Type 0
+TickKeepsForm =
+    (p : Plan) (y : Yard) (r : Record) → planVerdict p ≡ Accepted → wellFormed p y ≡ true → wellFormed p (tick p y r) ≡ true
+
+-- A run over the first a ticks and then over the rest is one run over all: states and bytes (`run-splits`).
+abbrev pub RunSplits : Type 0
+RunSplits =
+    (p : Plan) (y : Yard) (roll : List ℕ) (a b : ℕ)
+    → (after p y roll (a + b) ≡ after p (after p y roll a) (drop (4 * a) roll) b)
+    × (engagedBytes p y roll (a + b)
+    ≡ engagedBytes p y roll a ++ engagedBytes p (after p y roll a) (drop (4 * a) roll) b)
+
+-- Bit i-1 of a tick's byte is set exactly when device i stands in Running or in Exiting 1; bits N and up are not set
+-- (`engaged-exactly`).
+abbrev pub EngagedExactly : Type 0
+EngagedExactly =
+    (p : Plan) (y : Yard)
+    → ((i : ℕ) → 1 ≤ i → i ≤ p .N
+    → (bit (engagedByte p y) (i - 1) ≡ true) ↔ ((device y i .place ≡ Running) ⊎ (device y i .place ≡ Exiting1)))
+    × ((k : ℕ) → p .N ≤ k → bit (engagedByte p y) k ≡ false)
+
+-- What document 01 asks of a record.
+pub record Valid (p : Plan) (r : Record) : Type 0 where
+  -- byte 0: command 0, 1 or 2
+  pub command : r .command ≤ 2
+  -- byte 1: bits 2 and up zero
+  pub flags : (k : ℕ) → 2 ≤ k → bit (r .flags) k ≡ false
+  -- byte 2: bits N-1 and up zero
+  pub willing : (k : ℕ) → p .N - 1 ≤ k → bit (r .willing) k ≡ false
+  -- byte 3: bits N and up zero
+  pub lost : (k : ℕ) → p .N ≤ k → bit (r .lost) k ≡ false
+
+-- A record is taken exactly when it meets that (`valid-exactly`).
+abbrev pub ValidExactly : Type 0
+ValidExactly = (p : Plan) (r : Record) → (validRecord p r ≡ true) ↔ Valid p r
