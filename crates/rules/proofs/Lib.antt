@@ -1,11 +1,7 @@
-pub mod Verdicts
-pub mod Table
-pub mod Accepted
-pub mod Refused
-pub mod Formed
-pub mod Views
-pub mod Keeps
-pub mod Splits
-pub mod Engaged
-pub mod Valid
-pub mod Worked
+-- The theorems of specs/Theorems.antt, proved: the starred cases by computing, and a folder for each section of document 01.
+pub mod Cases
+pub mod Answers
+pub mod Plans
+pub mod States
+pub mod Ticks
+pub mod Runs

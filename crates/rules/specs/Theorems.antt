@@ -105,3 +105,10 @@ pub record Valid (p : Plan) (r : Record) : Type 0 where
 -- A record is taken exactly when it meets that (`valid-exactly`).
 abbrev pub ValidExactly : Type 0
 ValidExactly = (p : Plan) (r : Record) → (validRecord p r ≡ true) ↔ Valid p r
+
+-- c6 along the chain gives c4: line 6 never decides whether a plan is accepted, only which number is named (`c6-gives-c4`).
+abbrev pub C6GivesC4 : Type 0
+C6GivesC4 =
+    (p : Plan)
+    → ((i : ℕ) → 1 ≤ i → i < p .N → p .W + stay p (i + 1) < slot p i .E + slot p i .R)
+    → (i : ℕ) → 1 ≤ i → i ≤ p .N → (i - 1) * p .W + stay p i ≤ LS p

@@ -72,7 +72,7 @@ inLease p approved hear i clock lease =
 -- Lease N: Exit from N: Cancel N-1, sent. Approval fails: Abort N, sent. Cancel heard: Cancel N, sent.
 unfoldable pub inLeaseN : Plan → Bool → (ℕ → Letter) → ℕ → ℕ → ℕ → BaseMove
 inLeaseN p approved hear i clock lease =
-    cond (sameLetter (hear i) letter.Exit) (below cancels i lease)
+    cond (sameLetter (hear i) letter.Exit) (cancels (i - 1) lease)
     (cond (not approved) (aborts i lease)
     (cond (sameLetter (hear (p .N)) letter.Cancel) (cancels i lease)
     (stays (base.Lease i) clock lease)))

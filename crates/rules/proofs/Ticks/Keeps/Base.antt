@@ -5,7 +5,7 @@ use mathlib.Core.Path.{_≡_, refl}
 use mathlib.Core.Bool.{Bool, true, false, not, cond}
 use mathlib.Core.List.{[], _∷_}
 use lib.Dec.{ltb, eqb}
-use borrow.Author.Tests.{ltb-true, ltb-false, eqb-true}
+use borrow.Author.Tests.{ltb-true, ltb-false, ne-eqb}
 use Rattle.laws.specs.Tests.{allOf}
 use Rattle.laws.proofs.Tests.{tests, on-cond}
 use Rattle.rules.specs.declared.Plan.{Plan}
@@ -21,8 +21,8 @@ use Rattle.rules.specs.Yard.{sameLetter}
 use Rattle.rules.specs.Tick.Step1.{stopsAt, placeClock, leaseClock}
 use Rattle.rules.specs.Tick.Step3.{goes, fallsBack, stays, cancels, aborts, below, leases, inFallBack, inLease, inLeaseN, afterExit, unlessOver, baseMove}
 use Rattle.rules.specs.Theorems.{Accepts}
-use Rattle.rules.proofs.Formed.{Leased, Based}
-use Rattle.rules.proofs.Keeps.Devices.{stopped, ForParticipant}
+use Rattle.rules.proofs.States.Formed.{Leased, Based}
+use Rattle.rules.proofs.Ticks.Keeps.Devices.{stopped, ForParticipant}
 
 module _ (p : Plan) (a : Accepts p) where
   -- After step 1 a clock may stand at its limit; step 3 then moves the supervisor on.
@@ -114,10 +114,13 @@ module _ (p : Plan) (a : Accepts p) where
         (i c l : ℕ) → p .N ≤ i → Clocked (base.Lease i) c l → Leased p i l → Sound (inLeaseN p approved hear i c l)
     unfolding inLeaseN
     last-sound i c l last h d =
-        on-cond Sound (sameLetter (hear i) letter.Exit) (λ e. below-sound cancels cancels-sound i l d)
+        on-cond Sound (sameLetter (hear i) letter.Exit) (λ e. cancels-sound (i - 1) l (under i l d (ne-eqb i 1 several)))
         (λ e. on-cond Sound (not approved) (λ e. aborts-sound i l d)
         (λ e. on-cond Sound (sameLetter (hear (p .N)) letter.Cancel) (λ e. cancels-sound i l d)
         (λ e. ((d, λ q. absurd (omega arith), λ q. h .2 last), tt))))
+      where
+        several : i ≡ 1 → ⊥
+        several e = omega (arith, a .devices)
 
     in-time : (i l : ℕ) → Late i l → eqb l (LS p) ≡ false → Leased p i l
     in-time i l h e = record { low = h .low; high = h .high; short = omega (tests, h .long) }

@@ -15,7 +15,7 @@ use Rattle.rules.specs.declared.Verdict.the-variants.{Accepted, Refused}
 use Rattle.rules.specs.Plan.{isTime, isDevice, isPair, isAbove}
 use Rattle.rules.specs.Table.{fails, line1, line2, line3, line4, line5, line6, line7, line8, line9, table, broken, lineVerdict}
 use Rattle.rules.specs.Theorems.{Time}
-use Rattle.rules.proofs.Verdicts.{accepted-if, refused-if}
+use Rattle.rules.proofs.Answers.{accepted-if, refused-if}
 
 -- A condition, asked at an index.
 pub given : (asked holds : Bool) → fails asked holds ≡ false → asked ≡ true → holds ≡ true
@@ -30,38 +30,36 @@ kept false holds h = refl
 -- Times, and the indices of devices, pairs and unused slots.
 pub time-is : (t : ℕ) → isTime t ≡ true → Time t
 unfolding isTime
-time-is t e =
-    let h = all-hold (leb 1 t ∷ leb t 36000 ∷ []) e in
-    record { low = leb-true 1 t (h .0); high = leb-true t 36000 (h .1 .0) }
+time-is t e = let h = all-hold _ e in omega tests
 
 pub is-time : (t : ℕ) → Time t → isTime t ≡ true
 unfolding isTime
-is-time t h = all-of (leb 1 t ∷ leb t 36000 ∷ []) (le-leb 1 t (h .low), (le-leb t 36000 (h .high), tt))
+is-time t h = all-of _ (le-leb 1 t (h .low), (le-leb t 36000 (h .high), tt))
 
 module _ (p : Plan) (i : ℕ) where
   pub device-is : isDevice p i ≡ true → (1 ≤ i) × (i ≤ p .N)
   unfolding isDevice
-  device-is e = let h = all-hold (leb 1 i ∷ leb i (p .N) ∷ []) e in (leb-true _ _ (h .0), leb-true _ _ (h .1 .0))
+  device-is e = let h = all-hold _ e in omega tests
 
   pub is-device : 1 ≤ i → i ≤ p .N → isDevice p i ≡ true
   unfolding isDevice
-  is-device l h = all-of (leb 1 i ∷ leb i (p .N) ∷ []) (le-leb _ _ l, (le-leb _ _ h, tt))
+  is-device l h = all-of _ (le-leb _ _ l, (le-leb _ _ h, tt))
 
   pub pair-is : isPair p i ≡ true → (1 ≤ i) × (i < p .N)
   unfolding isPair
-  pair-is e = let h = all-hold (leb 1 i ∷ ltb i (p .N) ∷ []) e in (leb-true _ _ (h .0), ltb-true _ _ (h .1 .0))
+  pair-is e = let h = all-hold _ e in omega tests
 
   pub is-pair : 1 ≤ i → i < p .N → isPair p i ≡ true
   unfolding isPair
-  is-pair l h = all-of (leb 1 i ∷ ltb i (p .N) ∷ []) (le-leb _ _ l, (lt-ltb _ _ h, tt))
+  is-pair l h = all-of _ (le-leb _ _ l, (lt-ltb _ _ h, tt))
 
   pub above-is : isAbove p i ≡ true → (p .N < i) × (i ≤ 8)
   unfolding isAbove
-  above-is e = let h = all-hold (ltb (p .N) i ∷ leb i 8 ∷ []) e in (ltb-true _ _ (h .0), leb-true _ _ (h .1 .0))
+  above-is e = let h = all-hold _ e in omega tests
 
   pub is-above : p .N < i → i ≤ 8 → isAbove p i ≡ true
   unfolding isAbove
-  is-above l h = all-of (ltb (p .N) i ∷ leb i 8 ∷ []) (lt-ltb _ _ l, (le-leb _ _ h, tt))
+  is-above l h = all-of _ (lt-ltb _ _ l, (le-leb _ _ h, tt))
 
 -- No line, at an index where none of the nine is broken.
 module _ (p : Plan) where
@@ -100,7 +98,7 @@ module _ (p : Plan) where
   line-accepted k e i h =
       let n : ℕ = lowest (broken p k) 9 in
       let none : ltb n 9 ≡ false = accepted-if (ltb n 9) k n e in
-      lowest-none (broken p k) 9 i (omega (tests, none))
+      lowest-none (broken p k) 9 i (omega tests)
 
   pub accepted-line : (k : ℕ) → ((i : ℕ) → i < 9 → broken p k i ≡ false) → lineVerdict p k ≡ Accepted
   unfolding lineVerdict

@@ -13,9 +13,9 @@ use Rattle.rules.specs.Tick.{tick}
 use Rattle.rules.specs.Tick.Input.{approval}
 use Rattle.rules.specs.Tick.Step3.{heard}
 use Rattle.rules.specs.Theorems.{Accepts, TickKeepsForm}
-use Rattle.rules.proofs.Accepted.{accepted-exactly}
-use Rattle.rules.proofs.Formed.{Based, Formed, formed-is, is-formed}
-use Rattle.rules.proofs.Views.{risen, turn, up, tick-used, tick-unused, tick-base, tick-clock, tick-lease}
+use Rattle.rules.proofs.Plans.Accepted.{accepted-exactly}
+use Rattle.rules.proofs.States.Formed.{Based, Formed, formed-is, is-formed}
+use Rattle.rules.proofs.Ticks.Views.{risen, turn, up, tick-used, tick-unused, tick-base, tick-clock, tick-lease}
 
 module _ (p : Plan) (a : Accepts p) (y : Yard) (r : Record) (f : Formed p y) where
   sound : Base.Sound p a (turn p y r)

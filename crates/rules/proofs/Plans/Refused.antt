@@ -11,8 +11,8 @@ use Rattle.rules.specs.declared.Plan.{Plan}
 use Rattle.rules.specs.declared.Verdict.the-variants.{Accepted, Refused}
 use Rattle.rules.specs.Table.{line1, table, broken, lineVerdict, planVerdict}
 use Rattle.rules.specs.Theorems.{FirstBroken, RefusedExactly}
-use Rattle.rules.proofs.Verdicts.{first-is, refused-at}
-use Rattle.rules.proofs.Table.{given, kept, beyond, no-line, line-accepted, accepted-line, line-refused, refused-line}
+use Rattle.rules.proofs.Answers.{first-is, refused-at}
+use Rattle.rules.proofs.Plans.Table.{given, kept, beyond, no-line, line-accepted, accepted-line, line-refused, refused-line}
 
 module _ (p : Plan) where
   few-devices : broken p 1 0 ≡ false → p .N ≤ 8

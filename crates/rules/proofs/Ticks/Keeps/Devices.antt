@@ -22,7 +22,7 @@ use Rattle.rules.specs.Tick.Step1.{stopsAt, deviceClock, clocked}
 use Rattle.rules.specs.Tick.Step2.{due, dueMove, heedRequest, heedCancel, heed, moved}
 use Rattle.rules.specs.Tick.Step4.{hearLeaseReq, hearGrant, hearCancel, arrived, delivered}
 use Rattle.rules.specs.Theorems.{Accepts}
-use Rattle.rules.proofs.Formed.{Placed, Lettered}
+use Rattle.rules.proofs.States.Formed.{Placed, Lettered}
 
 -- A clock that stops at its limit stays within it.
 pub stopped : (limit c : ℕ) → c ≤ limit → stopsAt limit c ≤ limit

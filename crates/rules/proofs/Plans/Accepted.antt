@@ -13,8 +13,8 @@ use Rattle.rules.specs.declared.Verdict.the-variants.{Accepted}
 use Rattle.rules.specs.Plan.{slot, stay, LS, emptySlot, isTime, isDevice, isPair, isAbove}
 use Rattle.rules.specs.Table.{line1, line2, line3, line4, line5, line6, line7, line8, line9, table, broken, lineVerdict, planVerdict}
 use Rattle.rules.specs.Theorems.{Time, Accepts, AcceptedExactly}
-use Rattle.rules.proofs.Verdicts.{all-accepted, none-refused}
-use Rattle.rules.proofs.Table.{given, kept, time-is, is-time, device-is, is-device, pair-is, is-pair, above-is, is-above, unbroken, no-line, line-accepted, accepted-line}
+use Rattle.rules.proofs.Answers.{all-accepted, none-refused}
+use Rattle.rules.proofs.Plans.Table.{given, kept, time-is, is-time, device-is, is-device, pair-is, is-pair, above-is, is-above, unbroken, no-line, line-accepted, accepted-line}
 
 module _ (p : Plan) where
   -- From the lines, broken nowhere, to what the table asks.

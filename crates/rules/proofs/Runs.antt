@@ -1,0 +1,3 @@
+-- "Run": a run in two parts; what the bytes show.
+pub mod Splits
+pub mod Engaged

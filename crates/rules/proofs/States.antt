@@ -1,0 +1,2 @@
+-- "Yard and places": a well-formed state, read as facts.
+pub mod Formed
