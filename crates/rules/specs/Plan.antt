@@ -8,6 +8,7 @@ use lib.ListN.{getD}
 use Rattle.laws.specs.Tests.{allOf}
 use Rattle.rules.specs.declared.Plan.{Plan}
 use Rattle.rules.specs.declared.Slot.{Slot}
+use Rattle.rules.specs.declared.Terms.{Terms}
 
 -- A slot that is all zero.
 abbrev pub emptySlot : Slot
@@ -24,6 +25,10 @@ stay p i = slot p i .E + slot p i .R + slot p i .X
 -- LS = E1 + R1 + X1.
 abbrev pub LS : Plan → ℕ
 LS p = stay p 1
+
+-- What the supervisor goes by: N, W, B and LS.
+abbrev pub terms : Plan → Terms
+terms p = record { N = p .N; W = p .W; B = p .B; LS = LS p }
 
 -- A time that the plan may hold: 1 to 36,000.
 unfoldable pub isTime : ℕ → Bool

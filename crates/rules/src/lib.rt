@@ -92,6 +92,14 @@ pub enum Down {
     Abort(u8),
 }
 
+// What the supervisor goes by of a plan: N, W, B, and LS = E1 + R1 + X1.
+pub struct Terms {
+    pub N: u16,
+    pub W: u16,
+    pub B: u16,
+    pub LS: u32,
+}
+
 // What the supervisor does in a tick: where it then stands, with both clocks, and the letter that it sends.
 pub struct BaseMove {
     pub base: Base,

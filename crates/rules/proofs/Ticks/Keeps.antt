@@ -20,7 +20,7 @@ use Rattle.rules.proofs.Ticks.Views.{risen, turn, up, tick-used, tick-u
 module _ (p : Plan) (a : Accepts p) (y : Yard) (r : Record) (f : Formed p y) where
   sound : Base.Sound p a (turn p y r)
   sound =
-      Base.move-sound p a (approval r) (heard r (risen p y r)) (y .base) _ _
+      Base.move-sound p a (approval r) _ _ (y .base) _ _
       (Base.clock-kept p a (y .base) (y .clock) (y .lease) (f .based))
 
   good : (i : ℕ) (low : 1 ≤ i) (high : i ≤ 8) (used : i ≤ p .N) → Devices.Good p a i low used (device (tick p y r) i)

@@ -13,12 +13,13 @@ use Rattle.rules.specs.declared.Device.{Device}
 use Rattle.rules.specs.declared.Letter.{Letter}
 use Rattle.rules.specs.declared.Letter.the-variants as letter
 use Rattle.rules.specs.declared.BaseMove.{BaseMove}
+use Rattle.rules.specs.Plan.{terms}
 use Rattle.rules.specs.Yard.{at, device, freshDevice}
 use Rattle.rules.specs.Tick.{sent, tick}
 use Rattle.rules.specs.Tick.Input.{approval, upLost}
 use Rattle.rules.specs.Tick.Step1.{eachDevice, placeClock, leaseClock, clocked, step1}
-use Rattle.rules.specs.Tick.Step2.{moved, step2}
-use Rattle.rules.specs.Tick.Step3.{heard, baseMove, letterGone, step3}
+use Rattle.rules.specs.Tick.Step2.{movedAt, step2}
+use Rattle.rules.specs.Tick.Step3.{heard, baseMove, baseIndex, letterGone, step3}
 use Rattle.rules.specs.Tick.Step4.{delivered, step4}
 
 -- A yard whose devices have each done f.
@@ -39,18 +40,20 @@ module _ (p : Plan) (y : Yard) (r : Record) where
   risen = step2 p r (step1 p y)
 
   abbrev pub turn : BaseMove
-  turn = baseMove p (approval r) (heard r risen) (y .base) (placeClock p (y .base) (y .clock)) (leaseClock (y .base) (y .lease))
+  turn =
+      baseMove (terms p) (approval r) (heard r risen (p .N)) (heard r risen (baseIndex (y .base))) (y .base)
+      (placeClock (terms p) (y .base) (y .clock)) (leaseClock (y .base) (y .lease))
 
   -- Device i when the letters go up.
   abbrev pub up : ℕ → Device
-  up i = moved p r i (clocked p i (device y i))
+  up i = movedAt p r i (clocked p i (device y i))
 
   module _ (i : ℕ) (low : 1 ≤ i) (high : i ≤ 8) where
     pub risen-used : i ≤ p .N → device risen i ≡ up i
     unfolding step1 step2
     risen-used used =
-        each-used p (moved p r) (step1 p y) risen refl i low high used
-        ∙ ap (moved p r i) (each-used p (clocked p) y (step1 p y) refl i low high used)
+        each-used p (movedAt p r) (step1 p y) risen refl i low high used
+        ∙ ap (movedAt p r i) (each-used p (clocked p) y (step1 p y) refl i low high used)
 
     pub tick-used : i ≤ p .N → device (tick p y r) i ≡ delivered p r (turn .down) i (at (up i .place) (up i .clock) letter.None)
     unfolding tick sent step1 step2 step3 step4
@@ -64,7 +67,7 @@ module _ (p : Plan) (y : Yard) (r : Record) where
     tick-unused over =
         each-unused p (delivered p r (turn .down)) (sent p y r .yard) (tick p y r) refl i low high over
         ∙ each-unused p letterGone risen (sent p y r .yard) refl i low high over
-        ∙ each-unused p (moved p r) (step1 p y) risen refl i low high over
+        ∙ each-unused p (movedAt p r) (step1 p y) risen refl i low high over
         ∙ each-unused p (clocked p) y (step1 p y) refl i low high over
 
     -- What is heard from device i: the letter that it holds after its own move.

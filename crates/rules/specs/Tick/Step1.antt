@@ -7,13 +7,14 @@ use lib.Dec.{leb, ltb}
 use Rattle.laws.specs.Lists.{tabulate}
 use Rattle.rules.specs.declared.Plan.{Plan}
 use Rattle.rules.specs.declared.Slot.{Slot}
+use Rattle.rules.specs.declared.Terms.{Terms}
 use Rattle.rules.specs.declared.Base.{Base}
 use Rattle.rules.specs.declared.Base.the-variants as base
 use Rattle.rules.specs.declared.Place.{Place}
 use Rattle.rules.specs.declared.Place.the-variants as place
 use Rattle.rules.specs.declared.Device.{Device}
 use Rattle.rules.specs.declared.Yard.{Yard}
-use Rattle.rules.specs.Plan.{slot}
+use Rattle.rules.specs.Plan.{slot, terms}
 use Rattle.rules.specs.Yard.{at, device}
 
 -- The eight devices after each of 1 to N has done f; slots above N stay as they are.
@@ -24,11 +25,11 @@ eachDevice p f y = tabulate (λ i. cond (leb i (p .N)) (f i (device y i)) (devic
 abbrev pub stopsAt : ℕ → ℕ → ℕ
 stopsAt limit c = cond (ltb c limit) (c + 1) c
 
-unfoldable pub placeClock : Plan → Base → ℕ → ℕ
-placeClock p base.FallBack c = stopsAt (p .B) c
-placeClock p (base.Lease i) c = cond (ltb i (p .N)) (c + 1) c
-placeClock p (base.Cancel i) c = c
-placeClock p (base.Abort i) c = c
+unfoldable pub placeClock : Terms → Base → ℕ → ℕ
+placeClock t base.FallBack c = stopsAt (t .B) c
+placeClock t (base.Lease i) c = cond (ltb i (t .N)) (c + 1) c
+placeClock t (base.Cancel i) c = c
+placeClock t (base.Abort i) c = c
 
 unfoldable pub leaseClock : Base → ℕ → ℕ
 leaseClock base.FallBack l = l
@@ -52,7 +53,7 @@ unfoldable pub step1 : Plan → Yard → Yard
 step1 p y =
     record {
       base = y .base;
-      clock = placeClock p (y .base) (y .clock);
+      clock = placeClock (terms p) (y .base) (y .clock);
       lease = leaseClock (y .base) (y .lease);
       devices = eachDevice p (clocked p) y;
     }

@@ -17,13 +17,13 @@ use Rattle.rules.specs.Tick.Input.{request, cancel}
 use Rattle.rules.specs.Tick.Step1.{eachDevice}
 
 -- Due: Requesting at Q, Entering at E, Running at R, either Exiting at X.
-unfoldable pub due : Plan → Slot → Place → ℕ → Bool
-due p s place.FallBack c = false
-due p s place.Requesting c = eqb c (p .Q)
-due p s place.Entering c = eqb c (s .E)
-due p s place.Running c = eqb c (s .R)
-due p s place.Exiting1 c = eqb c (s .X)
-due p s place.Exiting2 c = eqb c (s .X)
+unfoldable pub due : ℕ → Slot → Place → ℕ → Bool
+due Q s place.FallBack c = false
+due Q s place.Requesting c = eqb c Q
+due Q s place.Entering c = eqb c (s .E)
+due Q s place.Running c = eqb c (s .R)
+due Q s place.Exiting1 c = eqb c (s .X)
+due Q s place.Exiting2 c = eqb c (s .X)
 
 -- Requesting to Fall-Back; Entering to Running; Running to Exiting 1; either Exiting to Fall-Back with the letter Exit.
 -- A move with no letter of its own keeps a letter that waits. Nothing is ever due in Fall-Back.
@@ -59,11 +59,15 @@ heed s command d =
     cond (eqb command request) (heedRequest s (d .place) (d .clock) (d .letter))
     (cond (eqb command cancel) (heedCancel (d .place) (d .clock) (d .letter)) d)
 
--- Step 2 of device i. Due time first; only if nothing was due for it, the initializer heeds the command.
-unfoldable pub moved : Plan → Record → ℕ → Device → Device
-moved p r i d =
-    cond (due p (slot p i) (d .place) (d .clock)) (dueMove (d .place) (d .letter))
-    (cond (eqb i (p .N)) (heed (slot p i) (r .command) d) d)
+-- One device's move, by Q, its slot, whether it is the initializer, and the command. Due time first; only if nothing was
+-- due for it, the initializer heeds the command.
+unfoldable pub moved : ℕ → Slot → Bool → ℕ → Device → Device
+moved Q s initializer command d =
+    cond (due Q s (d .place) (d .clock)) (dueMove (d .place) (d .letter)) (cond initializer (heed s command d) d)
+
+-- Step 2 of device i.
+abbrev pub movedAt : Plan → Record → ℕ → Device → Device
+movedAt p r i d = moved (p .Q) (slot p i) (eqb i (p .N)) (r .command) d
 
 unfoldable pub step2 : Plan → Record → Yard → Yard
-step2 p r y = record { base = y .base; clock = y .clock; lease = y .lease; devices = eachDevice p (moved p r) y }
+step2 p r y = record { base = y .base; clock = y .clock; lease = y .lease; devices = eachDevice p (movedAt p r) y }

@@ -15,8 +15,9 @@ use Rattle.rules.specs.declared.Down.the-variants as down
 use Rattle.rules.specs.declared.Device.{Device}
 use Rattle.rules.specs.declared.Yard.{Yard}
 use Rattle.rules.specs.declared.Record.{Record}
+use Rattle.rules.specs.declared.Terms.{Terms}
 use Rattle.rules.specs.declared.BaseMove.{BaseMove}
-use Rattle.rules.specs.Plan.{LS}
+use Rattle.rules.specs.Plan.{terms}
 use Rattle.rules.specs.Yard.{at, device, sameLetter}
 use Rattle.rules.specs.Tick.Input.{approval, upLost}
 use Rattle.rules.specs.Tick.Step1.{eachDevice}
@@ -48,52 +49,62 @@ abbrev pub below : (ℕ → ℕ → BaseMove) → ℕ → ℕ → BaseMove
 below kind i lease = cond (eqb i 1) fallsBack (kind (i - 1) lease)
 
 -- Lease i+1, send LeaseReq i+1, or Grant N when i+1 = N.
-abbrev pub leases : Plan → ℕ → ℕ → BaseMove
-leases p i lease = goes (base.Lease (i + 1)) lease (cond (eqb (i + 1) (p .N)) (down.Grant (i + 1)) (down.LeaseReq (i + 1)))
+abbrev pub leases : Terms → ℕ → ℕ → BaseMove
+leases t i lease = goes (base.Lease (i + 1)) lease (cond (eqb (i + 1) (t .N)) (down.Grant (i + 1)) (down.LeaseReq (i + 1)))
+
+-- In what follows `last` is what is heard from the initializer, `own` what is heard from the device i of the supervisor's
+-- place.
 
 -- Fall-Back: Request heard, clock at B, approval holds: to Lease 1, both clocks 0, send LeaseReq 1.
-unfoldable pub inFallBack : Plan → Bool → (ℕ → Letter) → ℕ → ℕ → BaseMove
-inFallBack p approved hear clock lease =
-    cond (allOf (sameLetter (hear (p .N)) letter.Request ∷ eqb clock (p .B) ∷ approved ∷ []))
+unfoldable pub inFallBack : Terms → Bool → Letter → ℕ → ℕ → BaseMove
+inFallBack t approved last clock lease =
+    cond (allOf (sameLetter last letter.Request ∷ eqb clock (t .B) ∷ approved ∷ []))
     (goes (base.Lease 1) 0 (down.LeaseReq 1))
     (stays base.FallBack clock lease)
 
 -- Lease i, i < N: approval fails: Abort i, send Abort i. Cancel heard: Cancel i, send Cancel i. Approve from i: on to i+1.
 -- Deny from i: Cancel i-1 and send it, or Fall-Back when i = 1. Place clock at W: Cancel i, send Cancel i.
-unfoldable pub inLease : Plan → Bool → (ℕ → Letter) → ℕ → ℕ → ℕ → BaseMove
-inLease p approved hear i clock lease =
+unfoldable pub inLease : Terms → Bool → Letter → Letter → ℕ → ℕ → ℕ → BaseMove
+inLease t approved last own i clock lease =
     cond (not approved) (aborts i lease)
-    (cond (sameLetter (hear (p .N)) letter.Cancel) (cancels i lease)
-    (cond (sameLetter (hear i) letter.Approve) (leases p i lease)
-    (cond (sameLetter (hear i) letter.Deny) (below cancels i lease)
-    (cond (eqb clock (p .W)) (cancels i lease)
+    (cond (sameLetter last letter.Cancel) (cancels i lease)
+    (cond (sameLetter own letter.Approve) (leases t i lease)
+    (cond (sameLetter own letter.Deny) (below cancels i lease)
+    (cond (eqb clock (t .W)) (cancels i lease)
     (stays (base.Lease i) clock lease)))))
 
 -- Lease N: Exit from N: Cancel N-1, sent. Approval fails: Abort N, sent. Cancel heard: Cancel N, sent.
-unfoldable pub inLeaseN : Plan → Bool → (ℕ → Letter) → ℕ → ℕ → ℕ → BaseMove
-inLeaseN p approved hear i clock lease =
-    cond (sameLetter (hear i) letter.Exit) (cancels (i - 1) lease)
+unfoldable pub inLeaseN : Bool → Letter → Letter → ℕ → ℕ → ℕ → BaseMove
+inLeaseN approved last own i clock lease =
+    cond (sameLetter own letter.Exit) (cancels (i - 1) lease)
     (cond (not approved) (aborts i lease)
-    (cond (sameLetter (hear (p .N)) letter.Cancel) (cancels i lease)
+    (cond (sameLetter last letter.Cancel) (cancels i lease)
     (stays (base.Lease i) clock lease)))
 
--- Cancel i or Abort i: Exit from i: the same kind at i-1, sent, or Fall-Back when i = 1.
-abbrev pub afterExit : (ℕ → Letter) → (ℕ → ℕ → BaseMove) → ℕ → BaseMove → ℕ → BaseMove
-afterExit hear kind i otherwise lease = cond (sameLetter (hear i) letter.Exit) (below kind i lease) otherwise
+-- Cancel i or Abort i: Exit from i: the same kind at i-1, sent, or Fall-Back when i = 1. Otherwise it stays.
+abbrev pub callsOff : (ℕ → ℕ → BaseMove) → Letter → ℕ → ℕ → BaseMove → BaseMove
+callsOff kind own i lease otherwise = cond (sameLetter own letter.Exit) (below kind i lease) otherwise
 
 -- Anywhere else than in Fall-Back: lease clock at LS: to Fall-Back. This comes before approval and before every letter.
-abbrev pub unlessOver : Plan → ℕ → BaseMove → BaseMove
-unlessOver p lease m = cond (eqb lease (LS p)) fallsBack m
+abbrev pub unlessOver : Terms → ℕ → BaseMove → BaseMove
+unlessOver t lease m = cond (eqb lease (t .LS)) fallsBack m
 
-unfoldable pub baseMove : Plan → Bool → (ℕ → Letter) → Base → ℕ → ℕ → BaseMove
-baseMove p approved hear base.FallBack clock lease = inFallBack p approved hear clock lease
-baseMove p approved hear (base.Lease i) clock lease =
-    unlessOver p lease
-    (cond (ltb i (p .N)) (inLease p approved hear i clock lease) (inLeaseN p approved hear i clock lease))
-baseMove p approved hear (base.Cancel i) clock lease =
-    unlessOver p lease (afterExit hear cancels i (stays (base.Cancel i) clock lease) lease)
-baseMove p approved hear (base.Abort i) clock lease =
-    unlessOver p lease (afterExit hear aborts i (stays (base.Abort i) clock lease) lease)
+unfoldable pub baseMove : Terms → Bool → Letter → Letter → Base → ℕ → ℕ → BaseMove
+baseMove t approved last own base.FallBack clock lease = inFallBack t approved last clock lease
+baseMove t approved last own (base.Lease i) clock lease =
+    unlessOver t lease
+    (cond (ltb i (t .N)) (inLease t approved last own i clock lease) (inLeaseN approved last own i clock lease))
+baseMove t approved last own (base.Cancel i) clock lease =
+    unlessOver t lease (callsOff cancels own i lease (stays (base.Cancel i) clock lease))
+baseMove t approved last own (base.Abort i) clock lease =
+    unlessOver t lease (callsOff aborts own i lease (stays (base.Abort i) clock lease))
+
+-- The device i of Lease i, Cancel i and Abort i; Fall-Back has none.
+abbrev pub baseIndex : Base → ℕ
+baseIndex base.FallBack = 0
+baseIndex (base.Lease i) = i
+baseIndex (base.Cancel i) = i
+baseIndex (base.Abort i) = i
 
 -- A device whose letter has gone up.
 abbrev pub letterGone : ℕ → Device → Device
@@ -106,7 +117,7 @@ pub record Sent : Type 0 where
 
 unfoldable pub step3 : Plan → Record → Yard → Sent
 step3 p r y =
-    let m = baseMove p (approval r) (heard r y) (y .base) (y .clock) (y .lease) in
+    let m = baseMove (terms p) (approval r) (heard r y (p .N)) (heard r y (baseIndex (y .base))) (y .base) (y .clock) (y .lease) in
     record {
       yard = record { base = m .base; clock = m .clock; lease = m .lease; devices = eachDevice p letterGone y };
       down = m .down;

@@ -50,18 +50,17 @@ hearCancel place.Running c l = at place.Exiting1 0 l
 hearCancel place.Exiting1 c l = at place.Exiting1 c l
 hearCancel place.Exiting2 c l = at place.Exiting2 c l
 
--- Step 4 of device i, where the letter has arrived: only the device that it is for heeds it.
-unfoldable pub arrived : Plan → Record → Down → ℕ → Device → Device
-arrived p r down.None i d = d
-arrived p r (down.LeaseReq k) i d =
-    cond (eqb i k) (hearLeaseReq (slot p i) (willing r i) (d .place) (d .clock) (d .letter)) d
-arrived p r (down.Grant k) i d = cond (eqb i k) (hearGrant (d .place) (d .clock) (d .letter)) d
-arrived p r (down.Cancel k) i d = cond (eqb i k) (hearCancel (d .place) (d .clock) (d .letter)) d
-arrived p r (down.Abort k) i d = cond (eqb i k) (hearCancel (d .place) (d .clock) (d .letter)) d
+-- A letter has arrived: only the device that it is for, its number i, heeds it.
+unfoldable pub arrived : Slot → Bool → Down → ℕ → Device → Device
+arrived s willing down.None i d = d
+arrived s willing (down.LeaseReq k) i d = cond (eqb i k) (hearLeaseReq s willing (d .place) (d .clock) (d .letter)) d
+arrived s willing (down.Grant k) i d = cond (eqb i k) (hearGrant (d .place) (d .clock) (d .letter)) d
+arrived s willing (down.Cancel k) i d = cond (eqb i k) (hearCancel (d .place) (d .clock) (d .letter)) d
+arrived s willing (down.Abort k) i d = cond (eqb i k) (hearCancel (d .place) (d .clock) (d .letter)) d
 
--- Lost, it changes nothing.
-unfoldable pub delivered : Plan → Record → Down → ℕ → Device → Device
-delivered p r l i d = cond (downLost r) d (arrived p r l i d)
+-- Step 4 of device i. Lost, the letter changes nothing.
+abbrev pub delivered : Plan → Record → Down → ℕ → Device → Device
+delivered p r l i d = cond (downLost r) d (arrived (slot p i) (willing r i) l i d)
 
 unfoldable pub step4 : Plan → Record → Sent → Yard
 step4 p r s =

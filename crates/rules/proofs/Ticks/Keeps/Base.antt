@@ -16,10 +16,10 @@ use Rattle.rules.specs.declared.Letter.the-variants as letter
 use Rattle.rules.specs.declared.Down.{Down}
 use Rattle.rules.specs.declared.Down.the-variants as down
 use Rattle.rules.specs.declared.BaseMove.{BaseMove}
-use Rattle.rules.specs.Plan.{slot, LS}
+use Rattle.rules.specs.Plan.{slot, LS, terms}
 use Rattle.rules.specs.Yard.{sameLetter}
 use Rattle.rules.specs.Tick.Step1.{stopsAt, placeClock, leaseClock}
-use Rattle.rules.specs.Tick.Step3.{goes, fallsBack, stays, cancels, aborts, below, leases, inFallBack, inLease, inLeaseN, afterExit, unlessOver, baseMove}
+use Rattle.rules.specs.Tick.Step3.{goes, fallsBack, stays, cancels, aborts, below, leases, inFallBack, inLease, inLeaseN, unlessOver, baseMove}
 use Rattle.rules.specs.Theorems.{Accepts}
 use Rattle.rules.proofs.States.Formed.{Leased, Based}
 use Rattle.rules.proofs.Ticks.Keeps.Devices.{stopped, ForParticipant}
@@ -40,7 +40,7 @@ module _ (p : Plan) (a : Accepts p) where
   later : (i l : ℕ) → Leased p i l → Late i (l + 1)
   later i l h = record { low = h .low; high = h .high; long = omega (arith, h .short) }
 
-  pub clock-kept : (b : Base) (c l : ℕ) → Based p b c l → Clocked b (placeClock p b c) (leaseClock b l)
+  pub clock-kept : (b : Base) (c l : ℕ) → Based p b c l → Clocked b (placeClock (terms p) b c) (leaseClock b l)
   unfolding placeClock leaseClock
   clock-kept base.FallBack c l h = (stopped (p .B) c (h .0), h .1)
   clock-kept (base.Lease i) c l h = (
@@ -75,17 +75,17 @@ module _ (p : Plan) (a : Accepts p) where
       → (i l : ℕ) → Leased p i l → Sound (below kind i l)
   below-sound kind ok i l h = on-cond Sound (eqb i 1) (λ e. falls-sound) (λ e. ok (i - 1) l (under i l h e))
 
-  leases-sound : (i l : ℕ) → i < p .N → Leased p i l → Sound (leases p i l)
+  leases-sound : (i l : ℕ) → i < p .N → Leased p i l → Sound (leases (terms p) i l)
   leases-sound i l few h = (
     (record { low = omega arith; high = omega arith; short = h .short }, λ q. a .yardTimes .0 .low, λ q. refl),
     on-cond (ForParticipant p) (eqb (i + 1) (p .N)) (λ e. tt) (λ e. omega tests),
   )
 
-  module _ (approved : Bool) (hear : ℕ → Letter) where
-    fall-back-sound : (c l : ℕ) → Clocked base.FallBack c l → Sound (inFallBack p approved hear c l)
+  module _ (approved : Bool) (last own : Letter) where
+    fall-back-sound : (c l : ℕ) → Clocked base.FallBack c l → Sound (inFallBack (terms p) approved last c l)
     unfolding inFallBack
     fall-back-sound c l h =
-        on-cond Sound (allOf (sameLetter (hear (p .N)) letter.Request ∷ eqb c (p .B) ∷ approved ∷ []))
+        on-cond Sound (allOf (sameLetter last letter.Request ∷ eqb c (p .B) ∷ approved ∷ []))
         (λ e. (
           (
             record { low = omega arith; high = omega (arith, a .devices); short = omega (arith, first) },
@@ -100,24 +100,24 @@ module _ (p : Plan) (a : Accepts p) where
         first = a .deviceTimes 1 (omega arith) (omega (arith, a .devices)) .1 .low
 
     lease-sound :
-        (i c l : ℕ) → i < p .N → Clocked (base.Lease i) c l → Leased p i l → Sound (inLease p approved hear i c l)
+        (i c l : ℕ) → i < p .N → Clocked (base.Lease i) c l → Leased p i l → Sound (inLease (terms p) approved last own i c l)
     unfolding inLease
     lease-sound i c l few h d =
         on-cond Sound (not approved) (λ e. aborts-sound i l d)
-        (λ e. on-cond Sound (sameLetter (hear (p .N)) letter.Cancel) (λ e. cancels-sound i l d)
-        (λ e. on-cond Sound (sameLetter (hear i) letter.Approve) (λ e. leases-sound i l few d)
-        (λ e. on-cond Sound (sameLetter (hear i) letter.Deny) (λ e. below-sound cancels cancels-sound i l d)
+        (λ e. on-cond Sound (sameLetter last letter.Cancel) (λ e. cancels-sound i l d)
+        (λ e. on-cond Sound (sameLetter own letter.Approve) (λ e. leases-sound i l few d)
+        (λ e. on-cond Sound (sameLetter own letter.Deny) (λ e. below-sound cancels cancels-sound i l d)
         (λ e. on-cond Sound (eqb c (p .W)) (λ e. cancels-sound i l d)
         (λ e. ((d, λ q. omega (tests, h .1 few), λ q. absurd (omega arith)), tt))))))
 
     last-sound :
-        (i c l : ℕ) → p .N ≤ i → Clocked (base.Lease i) c l → Leased p i l → Sound (inLeaseN p approved hear i c l)
+        (i c l : ℕ) → p .N ≤ i → Clocked (base.Lease i) c l → Leased p i l → Sound (inLeaseN approved last own i c l)
     unfolding inLeaseN
-    last-sound i c l last h d =
-        on-cond Sound (sameLetter (hear i) letter.Exit) (λ e. cancels-sound (i - 1) l (under i l d (ne-eqb i 1 several)))
+    last-sound i c l top h d =
+        on-cond Sound (sameLetter own letter.Exit) (λ e. cancels-sound (i - 1) l (under i l d (ne-eqb i 1 several)))
         (λ e. on-cond Sound (not approved) (λ e. aborts-sound i l d)
-        (λ e. on-cond Sound (sameLetter (hear (p .N)) letter.Cancel) (λ e. cancels-sound i l d)
-        (λ e. ((d, λ q. absurd (omega arith), λ q. h .2 last), tt))))
+        (λ e. on-cond Sound (sameLetter last letter.Cancel) (λ e. cancels-sound i l d)
+        (λ e. ((d, λ q. absurd (omega arith), λ q. h .2 top), tt))))
       where
         several : i ≡ 1 → ⊥
         several e = omega (arith, a .devices)
@@ -125,7 +125,7 @@ module _ (p : Plan) (a : Accepts p) where
     in-time : (i l : ℕ) → Late i l → eqb l (LS p) ≡ false → Leased p i l
     in-time i l h e = record { low = h .low; high = h .high; short = omega (tests, h .long) }
 
-    pub move-sound : (b : Base) (c l : ℕ) → Clocked b c l → Sound (baseMove p approved hear b c l)
+    pub move-sound : (b : Base) (c l : ℕ) → Clocked b c l → Sound (baseMove (terms p) approved last own b c l)
     unfolding baseMove
     move-sound base.FallBack c l h = fall-back-sound c l h
     move-sound (base.Lease i) c l h =
@@ -138,11 +138,11 @@ module _ (p : Plan) (a : Accepts p) where
         on-cond Sound (eqb l (LS p)) (λ e. falls-sound)
         (λ e.
         let d : Leased p i l = in-time i l (h .0) e in
-        on-cond Sound (sameLetter (hear i) letter.Exit) (λ q. below-sound cancels cancels-sound i l d)
+        on-cond Sound (sameLetter own letter.Exit) (λ q. below-sound cancels cancels-sound i l d)
         (λ q. ((d, h .1), tt)))
     move-sound (base.Abort i) c l h =
         on-cond Sound (eqb l (LS p)) (λ e. falls-sound)
         (λ e.
         let d : Leased p i l = in-time i l (h .0) e in
-        on-cond Sound (sameLetter (hear i) letter.Exit) (λ q. below-sound aborts aborts-sound i l d)
+        on-cond Sound (sameLetter own letter.Exit) (λ q. below-sound aborts aborts-sound i l d)
         (λ q. ((d, h .1), tt)))

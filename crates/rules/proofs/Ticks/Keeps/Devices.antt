@@ -19,7 +19,7 @@ use Rattle.rules.specs.Plan.{slot}
 use Rattle.rules.specs.Yard.{at}
 use Rattle.rules.specs.Tick.Input.{downLost, willing, request, cancel}
 use Rattle.rules.specs.Tick.Step1.{stopsAt, deviceClock, clocked}
-use Rattle.rules.specs.Tick.Step2.{due, dueMove, heedRequest, heedCancel, heed, moved}
+use Rattle.rules.specs.Tick.Step2.{due, dueMove, heedRequest, heedCancel, heed, moved, movedAt}
 use Rattle.rules.specs.Tick.Step4.{hearLeaseReq, hearGrant, hearCancel, arrived, delivered}
 use Rattle.rules.specs.Theorems.{Accepts}
 use Rattle.rules.proofs.States.Formed.{Placed, Lettered}
@@ -68,7 +68,7 @@ module _ (p : Plan) (a : Accepts p) where
     due-placed place.Exiting1 l = omega arith
     due-placed place.Exiting2 l = omega arith
 
-    still-placed : (pl : Place) (c : ℕ) → Clocked pl c → due p (slot p i) pl c ≡ false → Placed p i pl c
+    still-placed : (pl : Place) (c : ℕ) → Clocked pl c → due (p .Q) (slot p i) pl c ≡ false → Placed p i pl c
     unfolding due
     still-placed place.FallBack c h e = h
     still-placed place.Requesting c h e = (h .0, omega tests)
@@ -104,17 +104,17 @@ module _ (p : Plan) (a : Accepts p) where
         (λ q.
         on-cond PlacedAt (eqb command cancel) (λ q. cancel-placed (d .place) (d .clock) (d .letter) h) (λ q. h))
 
-    moved-placed : (r : Record) (d : Device) → Clocked (d .place) (d .clock) → PlacedAt (moved p r i d)
+    moved-placed : (r : Record) (d : Device) → Clocked (d .place) (d .clock) → PlacedAt (movedAt p r i d)
     unfolding moved
     moved-placed r d h =
-        on-cond PlacedAt (due p (slot p i) (d .place) (d .clock)) (λ q. due-placed (d .place) (d .letter))
+        on-cond PlacedAt (due (p .Q) (slot p i) (d .place) (d .clock)) (λ q. due-placed (d .place) (d .letter))
         (λ q.
         let s : PlacedAt d = still-placed (d .place) (d .clock) h q in
         on-cond PlacedAt (eqb i (p .N)) (λ e. heed-placed (eqb-true _ _ e) (r .command) d s) (λ e. s))
 
     pub up-placed :
         (r : Record) (d : Device) → Placed p i (d .place) (d .clock)
-        → Placed p i (moved p r i (clocked p i d) .place) (moved p r i (clocked p i d) .clock)
+        → Placed p i (movedAt p r i (clocked p i d) .place) (movedAt p r i (clocked p i d) .clock)
     up-placed r d h = moved-placed r (clocked p i d) (clock-kept (d .place) (d .clock) h)
 
     -- The down letter: LeaseReq goes to participants alone, so that Approve and Deny stand where they may.
@@ -155,18 +155,17 @@ module _ (p : Plan) (a : Accepts p) where
     called-off-good place.Exiting2 c h = (h, tt)
 
     arrived-good :
-        (r : Record) (l : Down) (pl : Place) (c : ℕ) → ForParticipant p l → Placed p i pl c
-        → Good (arrived p r l i (at pl c letter.None))
+        (w : Bool) (l : Down) (pl : Place) (c : ℕ) → ForParticipant p l → Placed p i pl c
+        → Good (arrived (slot p i) w l i (at pl c letter.None))
     unfolding arrived
-    arrived-good r down.None pl c f h = (h, tt)
-    arrived-good r (down.LeaseReq k) pl c f h =
-        on-cond Good (eqb i k) (λ e. lease-good (omega tests) (willing r i) pl c h) (λ e. (h, tt))
-    arrived-good r (down.Grant k) pl c f h = on-cond Good (eqb i k) (λ e. grant-good pl c h) (λ e. (h, tt))
-    arrived-good r (down.Cancel k) pl c f h = on-cond Good (eqb i k) (λ e. called-off-good pl c h) (λ e. (h, tt))
-    arrived-good r (down.Abort k) pl c f h = on-cond Good (eqb i k) (λ e. called-off-good pl c h) (λ e. (h, tt))
+    arrived-good w down.None pl c f h = (h, tt)
+    arrived-good w (down.LeaseReq k) pl c f h =
+        on-cond Good (eqb i k) (λ e. lease-good (omega tests) w pl c h) (λ e. (h, tt))
+    arrived-good w (down.Grant k) pl c f h = on-cond Good (eqb i k) (λ e. grant-good pl c h) (λ e. (h, tt))
+    arrived-good w (down.Cancel k) pl c f h = on-cond Good (eqb i k) (λ e. called-off-good pl c h) (λ e. (h, tt))
+    arrived-good w (down.Abort k) pl c f h = on-cond Good (eqb i k) (λ e. called-off-good pl c h) (λ e. (h, tt))
 
     pub delivered-good :
         (r : Record) (l : Down) (pl : Place) (c : ℕ) → ForParticipant p l → Placed p i pl c
         → Good (delivered p r l i (at pl c letter.None))
-    unfolding delivered
-    delivered-good r l pl c f h = on-cond Good (downLost r) (λ e. (h, tt)) (λ e. arrived-good r l pl c f h)
+    delivered-good r l pl c f h = on-cond Good (downLost r) (λ e. (h, tt)) (λ e. arrived-good (willing r i) l pl c f h)
