@@ -6,3 +6,4 @@ pub mod Tick
 pub mod Run
 pub mod Worked
 pub mod Theorems
+pub mod Promises
