@@ -1,7 +1,10 @@
 // What one device does in a tick: its own move (step 2) and the letter that reaches it (step 4).
 // These only compare clocks and set them to 0, so they take any device, and no function here has a `requires`.
-use rules::{Device, Down, Letter, Place, Slot};
-
+use rules::Device;
+use rules::Down;
+use rules::Letter;
+use rules::Place;
+use rules::Slot;
 ghost use mathlib.Core.Path.{_≡_};
 ghost use Rattle.rules.specs.Yard as yard;
 ghost use Rattle.rules.specs.Tick.Step2 as step2;
