@@ -77,6 +77,29 @@ unfolding allOf
 all-of [] h = refl
 all-of (b ∷ bs) h = and-of (h .0) (all-of bs (h .1))
 
+-- A list of tests joined as code joins them, from the left.
+abbrev pub andAll : Bool → List Bool → Bool
+andAll a [] = a
+andAll a (b ∷ bs) = andAll (a && b) bs
+
+abbrev pub orAll : Bool → List Bool → Bool
+orAll a [] = a
+orAll a (b ∷ bs) = orAll (a || b) bs
+
+pub all-is : (a : Bool) (bs : List Bool) → allOf (a ∷ bs) ≡ andAll a bs
+unfolding allOf
+all-is true [] = refl
+all-is false [] = refl
+all-is true (b ∷ bs) = all-is b bs
+all-is false (b ∷ bs) = all-is false bs
+
+pub any-is : (a : Bool) (bs : List Bool) → anyOf (a ∷ bs) ≡ orAll a bs
+unfolding anyOf
+any-is true [] = refl
+any-is false [] = refl
+any-is true (b ∷ bs) = any-is true bs
+any-is false (b ∷ bs) = any-is b bs
+
 pub none-hold : (bs : List Bool) → anyOf bs ≡ false → NoneHolds bs
 unfolding anyOf
 none-hold [] e = tt
