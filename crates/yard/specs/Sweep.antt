@@ -1,19 +1,19 @@
 -- What one pass over the devices does to each, as the functions of this crate compute it on the way; what a caller is
 -- promised is `tickAnswer` and `runAnswer` of the rules. Device i's slot and the device itself stand at place i - 1.
-use Prim.Native.Nat.{ℕ, _-_}
+use Prim.Native.Nat.{ℕ, _+_, _-_}
 use mathlib.Core.Bool.{Bool, cond}
 use mathlib.Core.List.{List}
 use lib.Dec.{eqb}
 use lib.ListN.{getD}
 use Rattle.laws.specs.Lists.{swept}
-use Rattle.laws.specs.Bits.{bit}
+use Rattle.laws.specs.Bits.{bit, ofBits}
 use Rattle.rules.specs.declared.Slot.{Slot}
 use Rattle.rules.specs.declared.Device.{Device}
 use Rattle.rules.specs.declared.Down.{Down}
 use Rattle.rules.specs.declared.Letter.{Letter}
 use Rattle.rules.specs.declared.Letter.the-variants as letter
 use Rattle.rules.specs.Plan.{emptySlot}
-use Rattle.rules.specs.Yard.{at, freshDevice}
+use Rattle.rules.specs.Yard.{at, freshDevice, engaged}
 use Rattle.rules.specs.Tick.Step1.{deviceClock}
 use Rattle.rules.specs.Tick.Step2.{moved}
 use Rattle.rules.specs.Tick.Step4.{arrived}
@@ -47,3 +47,7 @@ settledBy slots lost willing l i d = cond lost (gone d) (arrived (slotAt slots i
 -- What is heard from device i.
 abbrev pub heardFrom : ℕ → List Device → ℕ → Letter
 heardFrom lost ds i = cond (bit lost (i - 1)) letter.None (deviceAt ds i .letter)
+
+-- A tick's byte, from the devices at its end.
+abbrev pub byteOf : ℕ → List Device → ℕ
+byteOf n ds = ofBits (λ k. engaged (deviceAt ds (k + 1) .place)) n

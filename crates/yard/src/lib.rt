@@ -1,6 +1,7 @@
 // The yard's calls: a fresh yard, one tick, a run. No public function here has a `requires`.
 mod bits;
 mod clocks;
+mod step;
 
 use rules::Base;
 use rules::Device;
