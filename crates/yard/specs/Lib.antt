@@ -1,3 +1,4 @@
 pub mod Sweep
 pub mod Ready
 pub mod Sent
+pub mod Refusals

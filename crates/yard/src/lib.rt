@@ -10,14 +10,11 @@ use roll::{first_bad, valid_record};
 use rules::{Base, Device, Down, FreshAnswer, Letter, Place, Plan, Record, RunAnswer, TickAnswer, Verdict, Yard};
 
 ghost use mathlib.Core.Path.{_≡_};
-ghost use mathlib.Core.List.{[], _∷_};
 ghost use Prim.Native.Nat.{min};
-ghost use lib.Dec.{ltb};
-ghost use Rattle.rules.specs.Verdict.{refusedIf, firstRefusal};
-ghost use Rattle.rules.specs.Table.{planVerdict};
-ghost use Rattle.rules.specs.Yard.{freshYard, freshAnswer, stateVerdict};
+ghost use Rattle.rules.specs.Yard.{freshYard, freshAnswer};
 ghost use Rattle.rules.specs.Tick.{tickVerdict, tickAnswer};
-ghost use Rattle.rules.specs.Run.{lengthVerdict, rollVerdict, ticksToDo, runAnswer, runBuffer};
+ghost use Rattle.rules.specs.Run.{runAnswer, runBuffer};
+ghost use Rattle.yard.specs.Refusals.{verdictFor};
 
 fn fresh_yard() -> Yard
     ensures { λ r. ⌜ r ≡ freshYard ⌝ }
@@ -82,5 +79,67 @@ pub fn tick(p: Plan, y: Yard, r: Record) -> TickAnswer
         verdict,
         yard,
         down,
+    }
+}
+
+fn smaller(a: usize, b: usize) -> usize
+    ensures { λ r. ⌜ r ≡ min a b ⌝ }
+{
+    if a < b {
+        return a;
+    }
+    b
+}
+
+// The refusals of a run in their order; `room` is the buffer's length.
+fn run_verdict(p: Plan, y: Yard, roll: &[u8], ticks: usize, room: usize) -> Verdict
+    ensures { λ v. ⌜ v ≡ verdictFor p y (now (roll .entry)) ticks room ⌝ }
+{
+    let plan = plan::check(p);
+    let Verdict::Accepted = plan else {
+        return plan;
+    };
+    if !state::well_formed(p, y) {
+        return Verdict::Refused { number: 11, index: 0 };
+    }
+    if roll.len() % 4 != 0 {
+        return Verdict::Refused { number: 12, index: 0 };
+    }
+    let bad = first_bad(p, roll);
+    if bad < roll.len() / 4 {
+        return Verdict::Refused {
+            number: 10,
+            index: bad + 1,
+        };
+    }
+    if room < ticks {
+        return Verdict::Refused { number: 13, index: 0 };
+    }
+    Verdict::Accepted
+}
+
+// A run: the smaller of budget and records, from the state it is given. It is refused for its plan (1 to 9), its state
+// (11 at 0), its roll's length (12 at 0), the first bad record of the whole roll (10 at its number from 1), its buffer
+// (13 at 0), and then answers the state it was given and 0 ticks, and leaves the buffer as it is. Otherwise the buffer gets
+// one byte a tick, bit i-1 set when device i is engaged at that tick's end, and later bytes keep their value.
+pub fn run(p: Plan, y: Yard, roll: &[u8], budget: usize, engaged: &mut [u8]) -> RunAnswer
+    ensures { λ a. ⌜ a ≡ runAnswer p y (now (roll .entry)) budget (now (engaged .entry)) ⌝ }
+    ensures { λ a. ⌜ now (engaged .exit) ≡ runBuffer p y (now (roll .entry)) budget (now (engaged .entry)) ⌝ }
+{
+    let ticks = smaller(budget, roll.len() / 4);
+    let verdict = run_verdict(p, y, roll, ticks, engaged.len());
+    let Verdict::Accepted = verdict else {
+        return RunAnswer {
+            verdict,
+            yard: y,
+            ticks: 0,
+        };
+    };
+    let s = roll_on(p, y, roll, ticks, engaged);
+    let yard = s.yard;
+    RunAnswer {
+        verdict,
+        yard,
+        ticks,
     }
 }
