@@ -5,3 +5,4 @@ pub mod Plans
 pub mod States
 pub mod Ticks
 pub mod Runs
+pub mod Promises

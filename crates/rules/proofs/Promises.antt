@@ -1,0 +1,2 @@
+-- Demand 3, proved: an invariant over the yard that a fresh yard meets and every tick keeps, and what follows from it.
+pub mod Stays
