@@ -1,2 +1,3 @@
 -- Demand 3, proved: an invariant over the yard that a fresh yard meets and every tick keeps, and what follows from it.
 pub mod Stays
+pub mod Bases
