@@ -26,24 +26,24 @@ use Rattle.rules.proofs.Ticks.Views.{risen, up, heard-used}
 use Rattle.rules.proofs.Promises.Stays.Stay.{Active, Idle, spent}
 use Rattle.rules.proofs.Promises.Stays.Moves.{on-heed}
 
--- What a letter says, where `Entered` is what an Approve is taken for, and `Out` what Deny and Exit are.
+-- What a letter says: Approve says `Came`, Deny and Exit say `Gone`.
 abbrev pub Says : Type 0 → Type 0 → Letter → Type 0
-Says Entered Out letter.None = Unit
-Says Entered Out letter.Request = Unit
-Says Entered Out letter.Cancel = Unit
-Says Entered Out letter.Approve = Entered
-Says Entered Out letter.Deny = Out
-Says Entered Out letter.Exit = Out
+Says Came Gone letter.None = Unit
+Says Came Gone letter.Request = Unit
+Says Came Gone letter.Cancel = Unit
+Says Came Gone letter.Approve = Came
+Says Came Gone letter.Deny = Gone
+Says Came Gone letter.Exit = Gone
 
 -- Device i has entered, at least a tick and at most W ticks ago.
-pub record Entered (p : Plan) (i : ℕ) (d : Device) : Type 0 where
-  pub active : Active (d .place)
-  pub some : 1 ≤ spent (slot p i) (d .place) (d .clock)
-  pub few : spent (slot p i) (d .place) (d .clock) ≤ p .W
+pub record Entered (p : Plan) (i : ℕ) (pl : Place) (c : ℕ) : Type 0 where
+  pub active : Active pl
+  pub some : 1 ≤ spent (slot p i) pl c
+  pub few : spent (slot p i) pl c ≤ p .W
 
 module _ (p : Plan) (a : Accepts p) (r : Record) (i : ℕ) where
   abbrev True : Device → Type 0
-  True u = Says (Entered p i u) (Idle (u .place)) (u .letter)
+  True u = Says (Entered p i (u .place) (u .clock)) (Idle (u .place)) (u .letter)
 
   abbrev risenFrom : Place → ℕ → Letter → Device
   risenFrom pl c l = movedAt p r i (clocked p i (at pl c l))
@@ -74,7 +74,7 @@ module _ (p : Plan) (a : Accepts p) (r : Record) (i : ℕ) where
   unfolding deviceClock moved due dueMove heedRequest heedCancel
   approve below =
       let wait : 1 ≤ p .W = a .yardTimes .0 .low in
-      let still : Entered p i (at place.Entering 1 letter.Approve) =
+      let still : Entered p i place.Entering 1 =
       record { active = tt; some = omega arith; few = omega arith } in
       on-cond True (eqb 1 (slot p i .E)) (λ e. record { active = tt; some = omega tests; few = omega tests })
       (λ e. on-heed p i r True (at place.Entering 1 letter.Approve) still still (λ last. absurd (omega arith)))
@@ -95,10 +95,12 @@ module _ (p : Plan) (a : Accepts p) (r : Record) (i : ℕ) where
   letter-true letter.Exit pl c h = absurd h
 
 module _ (p : Plan) (a : Accepts p) (y : Yard) (r : Record) (f : Formed p y) (i : ℕ) (low : 1 ≤ i) (used : i ≤ p .N) where
-  pub heard-true : Says (Entered p i (up p y r i)) (Idle (up p y r i .place)) (heard r (risen p y r) i)
+  pub heard-true :
+      Says (Entered p i (up p y r i .place) (up p y r i .clock)) (Idle (up p y r i .place)) (heard r (risen p y r) i)
   heard-true =
       let high : i ≤ 8 = omega (arith, a .devices) in
       let d : Device = device y i in
+      let u : Device = up p y r i in
       rw (heard-used p y r i low high used)
-      (on-cond (Says (Entered p i (up p y r i)) (Idle (up p y r i .place))) (upLost r i) (λ e. tt)
+      (on-cond (Says (Entered p i (u .place) (u .clock)) (Idle (u .place))) (upLost r i) (λ e. tt)
       (λ e. letter-true p a r i (d .letter) (d .place) (d .clock) (f .lettered i low high used)))

@@ -6,12 +6,10 @@ use mathlib.Core.Path.{_≡_, refl, subst}
 use mathlib.Core.Bool.{Bool, true, false, not}
 use mathlib.Core.List.{[], _∷_}
 use lib.Dec.{ltb, eqb}
-use borrow.Author.Tests.{eqb-true, ltb-true, ltb-false, lt-ltb}
+use borrow.Author.Tests.{eqb-true, ltb-true, ltb-false}
 use Rattle.laws.specs.Tests.{allOf}
 use Rattle.laws.proofs.Tests.{tests, on-cond}
 use Rattle.rules.specs.declared.Plan.{Plan}
-use Rattle.rules.specs.declared.Yard.{Yard}
-use Rattle.rules.specs.declared.Record.{Record}
 use Rattle.rules.specs.declared.Base.{Base}
 use Rattle.rules.specs.declared.Base.the-variants as base
 use Rattle.rules.specs.declared.Letter.{Letter}
@@ -21,30 +19,26 @@ use Rattle.rules.specs.declared.Down.the-variants as down
 use Rattle.rules.specs.declared.BaseMove.{BaseMove}
 use Rattle.rules.specs.Plan.{slot, LS, terms}
 use Rattle.rules.specs.Yard.{sameLetter}
-use Rattle.rules.specs.Tick.Input.{approval}
-use Rattle.rules.specs.Tick.Step1.{placeClock, leaseClock}
 use Rattle.rules.specs.Tick.Step3.{fallsBack, stays, cancels, aborts, below, leases, inFallBack, inLease, inLeaseN, callsOff, baseMove, baseIndex}
 use Rattle.rules.specs.Theorems.{Accepts}
-use Rattle.rules.proofs.States.Formed.{Formed, same-letter}
-use Rattle.rules.proofs.Ticks.Views.{turn, up}
-use Rattle.rules.proofs.Ticks.Keeps.Base.{Clocked, clock-kept}
-use Rattle.rules.proofs.Promises.Stays.Stay.{Idle}
+use Rattle.rules.proofs.States.Formed.{same-letter}
+use Rattle.rules.proofs.Ticks.Keeps.Base.{Clocked}
 use Rattle.rules.proofs.Promises.Stays.Hears.{asked, calledOff}
-use Rattle.rules.proofs.Promises.Bases.Letters.{Says, Entered, heard-true}
+use Rattle.rules.proofs.Promises.Bases.Letters.{Says}
 
--- From the device k of the base's place, 0 in Fall-Back, and lease clock l to where move m leads. `Entered` says that
--- device k has just entered, `Out` that it is idle.
-pub data Turn (p : Plan) (Entered Out : Type 0) (k l : ℕ) (m : BaseMove) : Type 0 where
-  rests : k ≡ 0 → baseIndex (m .base) ≡ 0 → asked (m .down) ≡ 0 → Turn p Entered Out k l m
-  opens : k ≡ 0 → baseIndex (m .base) ≡ 1 → asked (m .down) ≡ 1 → m .lease ≡ 0 → Turn p Entered Out k l m
+-- From the device k of the base's place, 0 in Fall-Back, and lease clock l to where move m leads. `Came` says that
+-- device k has just entered, `Gone` that it is idle.
+pub data Turn (p : Plan) (Came Gone : Type 0) (k l : ℕ) (m : BaseMove) : Type 0 where
+  rests : k ≡ 0 → baseIndex (m .base) ≡ 0 → asked (m .down) ≡ 0 → Turn p Came Gone k l m
+  opens : k ≡ 0 → baseIndex (m .base) ≡ 1 → asked (m .down) ≡ 1 → m .lease ≡ 0 → Turn p Came Gone k l m
   goesOn :
-      Entered → 1 ≤ k → baseIndex (m .base) ≡ k + 1 → asked (m .down) ≡ k + 1 → m .lease ≡ l → l ≤ k * p .W
-      → Turn p Entered Out k l m
-  holds : 1 ≤ k → baseIndex (m .base) ≡ k → asked (m .down) ≡ 0 → m .lease ≡ l → Turn p Entered Out k l m
+      Came → 1 ≤ k → baseIndex (m .base) ≡ k + 1 → asked (m .down) ≡ k + 1 → m .lease ≡ l → l ≤ k * p .W
+      → Turn p Came Gone k l m
+  holds : 1 ≤ k → baseIndex (m .base) ≡ k → asked (m .down) ≡ 0 → m .lease ≡ l → Turn p Came Gone k l m
   goesBack :
-      Out → k ≡ baseIndex (m .base) + 1 → asked (m .down) ≡ 0 → (1 ≤ baseIndex (m .base) → m .lease ≡ l)
-      → Turn p Entered Out k l m
-  expires : l ≡ LS p → baseIndex (m .base) ≡ 0 → asked (m .down) ≡ 0 → Turn p Entered Out k l m
+      Gone → k ≡ baseIndex (m .base) + 1 → asked (m .down) ≡ 0 → (1 ≤ baseIndex (m .base) → m .lease ≡ l)
+      → Turn p Came Gone k l m
+  expires : l ≡ LS p → baseIndex (m .base) ≡ 0 → asked (m .down) ≡ 0 → Turn p Came Gone k l m
 
 -- The base comes to Lease i within (i-1) × W ticks, and waits for one device at a time.
 abbrev pub Prompt : Plan → Base → ℕ → ℕ → Type 0
@@ -53,16 +47,16 @@ Prompt p (base.Lease i) c l = i < p .N → l + p .W ≤ i * p .W + c
 Prompt p (base.Cancel i) c l = Unit
 Prompt p (base.Abort i) c l = Unit
 
-pub record Turned (p : Plan) (Entered Out : Type 0) (k l : ℕ) (m : BaseMove) : Type 0 where
-  pub kind : Turn p Entered Out k l m
+pub record Turned (p : Plan) (Came Gone : Type 0) (k l : ℕ) (m : BaseMove) : Type 0 where
+  pub kind : Turn p Came Gone k l m
   pub calls : 1 ≤ calledOff (m .down) → calledOff (m .down) ≡ baseIndex (m .base)
   pub prompt : Prompt p (m .base) (m .clock) (m .lease)
 
-module _ (p : Plan) (a : Accepts p) (Entered Out : Type 0) where
+module _ (p : Plan) (a : Accepts p) (Came Gone : Type 0) where
   -- The lease expires; the base calls off the device of its place; it goes back to the device below, or to Fall-Back.
   module _ (k l : ℕ) where
     abbrev At : BaseMove → Type 0
-    At m = Turned p Entered Out k l m
+    At m = Turned p Came Gone k l m
 
     expired : l ≡ LS p → At fallsBack
     expired over = record { kind = expires over refl refl; calls = λ q. absurd (omega arith); prompt = tt }
@@ -73,15 +67,15 @@ module _ (p : Plan) (a : Accepts p) (Entered Out : Type 0) where
     aborted : 1 ≤ k → At (aborts k l)
     aborted low = record { kind = holds low refl refl refl; calls = λ q. refl; prompt = tt }
 
-    cancelled-below : 2 ≤ k → Out → At (cancels (k - 1) l)
+    cancelled-below : 2 ≤ k → Gone → At (cancels (k - 1) l)
     cancelled-below high out =
         record { kind = goesBack out (omega arith) refl (λ q. refl); calls = λ q. refl; prompt = tt }
 
-    aborted-below : 2 ≤ k → Out → At (aborts (k - 1) l)
+    aborted-below : 2 ≤ k → Gone → At (aborts (k - 1) l)
     aborted-below high out =
         record { kind = goesBack out (omega arith) refl (λ q. refl); calls = λ q. refl; prompt = tt }
 
-    back : (kind : ℕ → ℕ → BaseMove) → (2 ≤ k → Out → At (kind (k - 1) l)) → 1 ≤ k → Out → At (below kind k l)
+    back : (kind : ℕ → ℕ → BaseMove) → (2 ≤ k → Gone → At (kind (k - 1) l)) → 1 ≤ k → Gone → At (below kind k l)
     back kind step low out =
         on-cond At (eqb k 1)
         (λ e.
@@ -98,7 +92,7 @@ module _ (p : Plan) (a : Accepts p) (Entered Out : Type 0) where
         record { kind = holds low here refl refl; calls = λ q. absurd (omega arith); prompt = soon }
 
     -- It goes on to the next device, in time.
-    onward : (c : ℕ) → 1 ≤ k → c ≤ p .W → l + p .W ≤ k * p .W + c → Entered → At (leases (terms p) k l)
+    onward : (c : ℕ) → 1 ≤ k → c ≤ p .W → l + p .W ≤ k * p .W + c → Came → At (leases (terms p) k l)
     onward c low wait soon entered =
         let last : Bool = eqb (k + 1) (p .N) in
         record {
@@ -119,15 +113,15 @@ module _ (p : Plan) (a : Accepts p) (Entered Out : Type 0) where
         (λ e. record { kind = opens refl refl refl refl; calls = λ q. absurd (omega arith); prompt = λ few. omega arith })
         (λ e. record { kind = rests refl refl refl; calls = λ q. absurd (omega arith); prompt = tt })
 
-    module _ (told : Says Entered Out own) where
-      told-approve : sameLetter own letter.Approve ≡ true → Entered
-      told-approve e = subst (Says Entered Out) (same-letter own letter.Approve e) told
+    module _ (told : Says Came Gone own) where
+      told-approve : sameLetter own letter.Approve ≡ true → Came
+      told-approve e = subst (Says Came Gone) (same-letter own letter.Approve e) told
 
-      told-deny : sameLetter own letter.Deny ≡ true → Out
-      told-deny e = subst (Says Entered Out) (same-letter own letter.Deny e) told
+      told-deny : sameLetter own letter.Deny ≡ true → Gone
+      told-deny e = subst (Says Came Gone) (same-letter own letter.Deny e) told
 
-      told-exit : sameLetter own letter.Exit ≡ true → Out
-      told-exit e = subst (Says Entered Out) (same-letter own letter.Exit e) told
+      told-exit : sameLetter own letter.Exit ≡ true → Gone
+      told-exit e = subst (Says Came Gone) (same-letter own letter.Exit e) told
 
       in-lease :
           (i c l : ℕ) → 1 ≤ i → i < p .N → c ≤ p .W → Prompt p (base.Lease i) c l
@@ -151,19 +145,19 @@ module _ (p : Plan) (a : Accepts p) (Entered Out : Type 0) where
           (λ e. held i l (base.Lease i) c (omega arith) refl (λ few. absurd (omega arith)))))
 
       called-off :
-          (kind : ℕ → ℕ → BaseMove) (i l : ℕ) (otherwise : BaseMove) → 1 ≤ i → (2 ≤ i → Out → At i l (kind (i - 1) l))
+          (kind : ℕ → ℕ → BaseMove) (i l : ℕ) (otherwise : BaseMove) → 1 ≤ i → (2 ≤ i → Gone → At i l (kind (i - 1) l))
           → At i l otherwise → At i l (callsOff kind own i l otherwise)
       called-off kind i l otherwise low step still =
           on-cond (At i l) (sameLetter own letter.Exit) (λ e. back i l kind step low (told-exit e)) (λ e. still)
 
-    turned :
+    pub turned :
         (b : Base) (c l : ℕ) → Clocked p a b c l → Prompt p b c l
-        → (1 ≤ baseIndex b → baseIndex b ≤ p .N → Says Entered Out own)
+        → (1 ≤ baseIndex b → baseIndex b ≤ p .N → Says Came Gone own)
         → At (baseIndex b) l (baseMove (terms p) approved last own b c l)
     unfolding baseMove
     turned base.FallBack c l h soon told = in-fall-back c l
     turned (base.Lease i) c l h soon told =
-        let true : Says Entered Out own = told (h .0 .low) (h .0 .high) in
+        let true : Says Came Gone own = told (h .0 .low) (h .0 .high) in
         on-cond (At i l) (eqb l (LS p)) (λ e. expired i l (eqb-true _ _ e))
         (λ e.
         on-cond (At i l) (ltb i (p .N))
@@ -179,20 +173,3 @@ module _ (p : Plan) (a : Accepts p) (Entered Out : Type 0) where
         (λ e.
         called-off (told (h .0 .low) (h .0 .high)) aborts i l _ (h .0 .low) (aborted-below i l)
         (held i l (base.Abort i) c (h .0 .low) refl tt))
-
--- Step 1 adds a tick to both clocks of a waiting base.
-prompt-kept :
-    (p : Plan) (b : Base) (c l : ℕ) → Prompt p b c l → Prompt p b (placeClock (terms p) b c) (leaseClock b l)
-unfolding placeClock leaseClock
-prompt-kept p base.FallBack c l h = tt
-prompt-kept p (base.Lease i) c l h = λ few. rw (lt-ltb i (p .N) few) (omega (arith, h few))
-prompt-kept p (base.Cancel i) c l h = tt
-prompt-kept p (base.Abort i) c l h = tt
-
-module _ (p : Plan) (a : Accepts p) (y : Yard) (r : Record) (f : Formed p y) (soon : Prompt p (y .base) (y .clock) (y .lease)) where
-  pub tick-turned :
-      Turned p (Entered p (baseIndex (y .base)) (up p y r (baseIndex (y .base)))) (Idle (up p y r (baseIndex (y .base)) .place))
-      (baseIndex (y .base)) (leaseClock (y .base) (y .lease)) (turn p y r)
-  tick-turned =
-      turned p a _ _ (approval r) _ _ (y .base) _ _ (clock-kept p a (y .base) (y .clock) (y .lease) (f .based))
-      (prompt-kept p (y .base) (y .clock) (y .lease) soon) (heard-true p a y r f (baseIndex (y .base)))

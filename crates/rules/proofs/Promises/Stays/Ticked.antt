@@ -50,21 +50,52 @@ module _ (s : Slot) (some : 1 ≤ s .F) (Last Asked Off Either : Type 0) (last :
   joined (Step.ends i at zero k) (Hears.starts a h pl c) = let rested : u .clock ≡ s .F = rw at at h in absurd (omega arith)
   joined (Step.ends i at zero k) (Hears.halted o j j' x y z w) = absurd (rw at at j)
 
-module _ (p : Plan) (a : Accepts p) (y : Yard) (r : Record) (f : Formed p y) (i : ℕ) (low : 1 ≤ i) (used : i ≤ p .N) where
-  within : i ≤ 8
-  within = omega (arith, a .devices)
+module _ (p : Plan) (y : Yard) (r : Record) (i : ℕ) where
+  -- The whole tick: only a device that is asked starts, and a participant is halted only if it is called off.
+  abbrev pub StepOf : Type 0
+  StepOf =
+      Step (slot p i) (asked (turn p y r .down) ≡ i) (i < p .N → calledOff (turn p y r .down) ≡ i)
+      (device y i) (device (tick p y r) i)
 
   -- From the letters' going up to the tick's end.
-  pub tick-hears :
+  abbrev HearsOf : Type 0
+  HearsOf =
       Hears (slot p i) (asked (turn p y r .down) ≡ i) (calledOff (turn p y r .down) ≡ i) (up p y r i) (device (tick p y r) i)
-  tick-hears =
-      rw (tick-used p y r i low within used)
-      (hears-down p i r (turn p y r .down) (up p y r i) (up-placed p a i low used r (device y i) (f .placed i low within used)))
 
-  -- The whole tick: only a device that is asked starts, and a participant is halted only if it is called off.
-  pub tick-steps :
-      Step (slot p i) (asked (turn p y r .down) ≡ i) (i < p .N → calledOff (turn p y r .down) ≡ i) (device y i) (device (tick p y r) i)
-  tick-steps =
-      joined (slot p i) (a .deviceTimes i low used .0 .low) (i ≡ p .N) _ (calledOff (turn p y r .down) ≡ i) _
-      (λ last few. absurd (omega arith)) (λ off few. off) (device y i) (up p y r i) (device (tick p y r) i)
-      (steps-up p i r (device y i) (f .placed i low within used)) tick-hears
+  module _ (a : Accepts p) (f : Formed p y) (low : 1 ≤ i) (used : i ≤ p .N) where
+    within : i ≤ 8
+    within = omega (arith, a .devices)
+
+    tick-hears : HearsOf
+    tick-hears =
+        rw (tick-used p y r i low within used)
+        (hears-down p i r (turn p y r .down) (up p y r i) (up-placed p a i low used r (device y i) (f .placed i low within used)))
+
+    pub tick-steps : StepOf
+    tick-steps =
+        joined (slot p i) (a .deviceTimes i low used .0 .low) (i ≡ p .N) _ (calledOff (turn p y r .down) ≡ i) _
+        (λ last few. absurd (omega arith)) (λ off few. off) (device y i) (up p y r i) (device (tick p y r) i)
+        (steps-up p i r (device y i) (f .placed i low within used)) tick-hears
+
+    -- A device that is idle when the letters go up, and is not asked, ends the tick idle.
+    pub tick-idle : (asked (turn p y r .down) ≡ i → ⊥) → Idle (up p y r i .place) → Idle (device (tick p y r) i .place)
+    tick-idle unasked idle = stays-idle tick-hears
+      where
+        stays-idle : HearsOf → Idle (device (tick p y r) i .place)
+        stays-idle (Hears.same pl c) = rw pl idle
+        stays-idle (Hears.denies at pl c) = rw pl (λ q. q)
+        stays-idle (Hears.starts a h pl c) = absurd (unasked a)
+        stays-idle (Hears.halted o k l x y z w) = absurd (idle k)
+
+    -- One that is active then, and is not called off, ends the tick as it was.
+    abbrev Same : Type 0
+    Same = (device (tick p y r) i .place ≡ up p y r i .place) × (device (tick p y r) i .clock ≡ up p y r i .clock)
+
+    pub tick-same : (calledOff (turn p y r .down) ≡ i → ⊥) → Active (up p y r i .place) → Same
+    tick-same kept active = stays-same tick-hears
+      where
+        stays-same : HearsOf → Same
+        stays-same (Hears.same pl c) = (pl, c)
+        stays-same (Hears.denies at pl c) = absurd (rw at at active)
+        stays-same (Hears.starts a h pl c) = absurd (ready-idle (slot p i) (up p y r i .place) (up p y r i .clock) h active)
+        stays-same (Hears.halted o k l x y z w) = absurd (kept o)

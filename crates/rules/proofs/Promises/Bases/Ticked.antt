@@ -1,0 +1,102 @@
+-- What the base does in a tick, said of the devices at the tick's end: the one that it goes on from has just entered, the
+-- one that it goes back from is idle.
+use Prim.Native.Nat.{ℕ, _+_, _*_, _≤_, _<_}
+use native.Mathlib.Omega.{arith}
+use mathlib.Core.Path.{_≡_, refl}
+use borrow.Author.Tests.{lt-ltb}
+use Rattle.rules.specs.declared.Plan.{Plan}
+use Rattle.rules.specs.declared.Yard.{Yard}
+use Rattle.rules.specs.declared.Record.{Record}
+use Rattle.rules.specs.declared.Device.{Device}
+use Rattle.rules.specs.declared.Base.{Base}
+use Rattle.rules.specs.declared.Base.the-variants as base
+use Rattle.rules.specs.Plan.{slot, terms}
+use Rattle.rules.specs.Yard.{device}
+use Rattle.rules.specs.Tick.{tick}
+use Rattle.rules.specs.Tick.Input.{approval}
+use Rattle.rules.specs.Tick.Step1.{placeClock, leaseClock}
+use Rattle.rules.specs.Tick.Step3.{baseIndex}
+use Rattle.rules.specs.Theorems.{Accepts}
+use Rattle.rules.proofs.States.Formed.{Based, Formed}
+use Rattle.rules.proofs.Ticks.Views.{turn, up, tick-base, tick-clock, tick-lease}
+use Rattle.rules.proofs.Ticks.Keeps.Base.{clock-kept}
+use Rattle.rules.proofs.Promises.Stays.Stay.{Idle}
+use Rattle.rules.proofs.Promises.Stays.Hears.{asked, calledOff}
+use Rattle.rules.proofs.Promises.Stays.Ticked.{tick-idle, tick-same}
+use Rattle.rules.proofs.Promises.Bases.Letters.{Entered, heard-true}
+use Rattle.rules.proofs.Promises.Bases.Turns.{Turn, Turned, Prompt, turned}
+
+-- Away from Fall-Back step 1 adds a tick to the lease clock.
+pub lease-runs : (b : Base) (l : ℕ) → 1 ≤ baseIndex b → leaseClock b l ≡ l + 1
+unfolding leaseClock
+lease-runs base.FallBack l h = absurd (omega arith)
+lease-runs (base.Lease i) l h = refl
+lease-runs (base.Cancel i) l h = refl
+lease-runs (base.Abort i) l h = refl
+
+base-used : (p : Plan) (b : Base) (c l : ℕ) → Based p b c l → baseIndex b ≤ p .N
+base-used p base.FallBack c l h = omega arith
+base-used p (base.Lease i) c l h = h .0 .high
+base-used p (base.Cancel i) c l h = h .0 .high
+base-used p (base.Abort i) c l h = h .0 .high
+
+-- Step 1 adds a tick to both clocks of a waiting base.
+prompt-kept :
+    (p : Plan) (b : Base) (c l : ℕ) → Prompt p b c l → Prompt p b (placeClock (terms p) b c) (leaseClock b l)
+unfolding placeClock leaseClock
+prompt-kept p base.FallBack c l h = tt
+prompt-kept p (base.Lease i) c l h = λ few. rw (lt-ltb i (p .N) few) (omega (arith, h few))
+prompt-kept p (base.Cancel i) c l h = tt
+prompt-kept p (base.Abort i) c l h = tt
+
+module _ (p : Plan) (y : Yard) (r : Record) where
+  -- The device of the base's place when the tick begins, 0 in Fall-Back; how it stands when the letters go up, and at the end.
+  abbrev index : ℕ
+  index = baseIndex (y .base)
+
+  abbrev then : Device
+  then = up p y r index
+
+  abbrev finally : Device
+  finally = device (tick p y r) index
+
+  -- What the base does, where u is the device of its place.
+  abbrev TurnBy : Device → Type 0
+  TurnBy u = Turn p (Entered p index (u .place) (u .clock)) (Idle (u .place)) index (leaseClock (y .base) (y .lease)) (turn p y r)
+
+  abbrev pub TurnOf : Type 0
+  TurnOf = TurnBy finally
+
+  module _ (a : Accepts p) (f : Formed p y) (soon : Prompt p (y .base) (y .clock) (y .lease)) where
+    rising :
+        Turned p (Entered p index (then .place) (then .clock)) (Idle (then .place)) index
+        (leaseClock (y .base) (y .lease)) (turn p y r)
+    rising =
+        turned p a _ _ (approval r) _ _ (y .base) _ _ (clock-kept p a (y .base) (y .clock) (y .lease) (f .based))
+        (prompt-kept p (y .base) (y .clock) (y .lease) soon) (heard-true p a y r f index)
+
+    -- It calls off no device but that of its new place, and comes to each Lease in time.
+    pub tick-calls : 1 ≤ calledOff (turn p y r .down) → calledOff (turn p y r .down) ≡ baseIndex (tick p y r .base)
+    tick-calls = rw (tick-base p y r) (rising .calls)
+
+    pub tick-prompt : Prompt p (tick p y r .base) (tick p y r .clock) (tick p y r .lease)
+    tick-prompt = rw (tick-base p y r, tick-clock p y r, tick-lease p y r) (rising .prompt)
+
+    used : index ≤ p .N
+    used = base-used p (y .base) (y .clock) (y .lease) (f .based)
+
+    settled : TurnBy then → TurnOf
+    settled (Turn.rests a b c) = Turn.rests a b c
+    settled (Turn.opens a b c d) = Turn.opens a b c d
+    settled (Turn.goesOn came low b c d e) =
+        let unheard : calledOff (turn p y r .down) ≡ index → ⊥ =
+        λ q. omega (arith, rising .calls (omega arith)) in
+        let same = tick-same p y r index a f low used unheard (came .active) in
+        Turn.goesOn (rw (same .0, same .1) came) low b c d e
+    settled (Turn.holds a b c d) = Turn.holds a b c d
+    settled (Turn.goesBack gone b c d) =
+        Turn.goesBack (tick-idle p y r index a f (omega arith) used (λ q. omega arith) gone) b c d
+    settled (Turn.expires a b c) = Turn.expires a b c
+
+    pub tick-turns : TurnOf
+    tick-turns = settled (rising .kind)
