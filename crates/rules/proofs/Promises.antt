@@ -2,3 +2,4 @@
 pub mod Stays
 pub mod Bases
 pub mod Safe
+pub mod History

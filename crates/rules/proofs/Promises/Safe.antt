@@ -3,3 +3,4 @@ pub mod Clauses
 pub mod Reach
 pub mod Cover
 pub mod Nest
+pub mod Always

@@ -3,3 +3,4 @@ pub mod Stay
 pub mod Moves
 pub mod Hears
 pub mod Ticked
+pub mod Steps

@@ -12,9 +12,9 @@ use Rattle.rules.specs.Tick.Step1.{leaseClock}
 use Rattle.rules.specs.Tick.Step3.{baseIndex}
 use Rattle.rules.specs.Theorems.{Accepts}
 use Rattle.rules.proofs.Ticks.Views.{turn, tick-base, tick-lease}
-use Rattle.rules.proofs.Promises.Stays.Moves.{Step}
 use Rattle.rules.proofs.Promises.Stays.Hears.{asked}
-use Rattle.rules.proofs.Promises.Stays.Ticked.{StepOf, tick-steps}
+use Rattle.rules.proofs.Promises.Stays.Ticked.{tick-steps}
+use Rattle.rules.proofs.Promises.Stays.Steps.{on-active}
 use Rattle.rules.proofs.Promises.Bases.Turns.{Turn}
 use Rattle.rules.proofs.Promises.Bases.Ticked.{TurnOf, tick-turns, lease-runs}
 use Rattle.rules.proofs.Promises.Safe.Clauses.{ActiveAt, spentAt, Reached, Covered, Safe}
@@ -50,24 +50,13 @@ module _ (p : Plan) (a : Accepts p) (y : Yard) (r : Record) (s : Safe p y) (reac
   fits j low used =
       let one : j ≡ j - 1 + 1 = omega arith in omega (arith, a .c4 j low used, ap (λ (k : ℕ). k * p .W) one)
 
-  module _ (j : ℕ) (low : 1 ≤ j) (used : j ≤ p .N) (active : ActiveAt (tick p y r) j) where
-    stood-covered : TurnOf p y r → ActiveAt y j → spentAt p y j + 1 ≤ spentAt p (tick p y r) j → turn p y r .lease + stay p j ≤ LS p + spentAt p (tick p y r) j
-    stood-covered t was more =
-        let here : j ≤ baseIndex (y .base) = s .reached j low used was in
-        let there : j ≤ baseIndex (turn p y r .base) = rw (tick-base p y r) at (reached j low used active) in
-        omega (arith, s .covered j low used was, runs t (omega arith) (omega arith))
-
-    covered-by : TurnOf p y r → StepOf p y r j → turn p y r .lease + stay p j ≤ LS p + spentAt p (tick p y r) j
-    covered-by t (Step.rests i k) = absurd (k active)
-    covered-by t (Step.starts q i pl c) = omega (arith, fits j low used, asked-early j low t q)
-    covered-by t (Step.goesOn i k e g h) = stood-covered t i (omega arith)
-    covered-by t (Step.halted o i k l e g h) = stood-covered t i (omega arith)
-    covered-by t (Step.ends i pl c e) = absurd (rw pl at active)
-
   pub covered-kept : Covered p (tick p y r)
   covered-kept j low used active =
-      omega (
-        arith,
-        tick-lease p y r,
-        covered-by j low used active (tick-turns p y r a (s .formed) (s .prompt)) (tick-steps p y r j a (s .formed) low used),
-      )
+      let t : TurnOf p y r = tick-turns p y r a (s .formed) (s .prompt) in
+      let clock : tick p y r .lease ≡ turn p y r .lease = tick-lease p y r in
+      on-active (tick-steps p y r j a (s .formed) low used) active
+      (λ q new young. omega (arith, fits j low used, asked-early j low t q))
+      (λ was more older.
+      let here : j ≤ baseIndex (y .base) = s .reached j low used was in
+      let there : j ≤ baseIndex (turn p y r .base) = rw (tick-base p y r) at (reached j low used active) in
+      omega (arith, s .covered j low used was, runs t (omega arith) (omega arith)))

@@ -16,6 +16,7 @@ use Rattle.rules.proofs.Promises.Stays.Stay.{some-left}
 use Rattle.rules.proofs.Promises.Stays.Moves.{Step}
 use Rattle.rules.proofs.Promises.Stays.Hears.{asked, calledOff}
 use Rattle.rules.proofs.Promises.Stays.Ticked.{StepOf, tick-steps}
+use Rattle.rules.proofs.Promises.Stays.Steps.{on-active}
 use Rattle.rules.proofs.Promises.Bases.Letters.{Entered}
 use Rattle.rules.proofs.Promises.Bases.Turns.{Turn}
 use Rattle.rules.proofs.Promises.Bases.Ticked.{TurnOf, tick-turns, tick-calls}
@@ -72,14 +73,9 @@ module _ (p : Plan) (a : Accepts p) (y : Yard) (r : Record) (s : Safe p y) (reac
             absurd (omega (arith, reached (i + 1) (omega arith) (omega arith) active))
         by (Step.ends j pl c e) = absurd (omega (arith, n .outlasts, left))
 
-    nested-by : TurnOf p y r → StepOf p y r (i + 1) → Nest p end i
-    nested-by t (Step.rests j k) = absurd (k active)
-    nested-by t (Step.starts q j pl c) = starts-nested (asked-after t q) (rw (pl, c)) (rw (pl, c))
-    nested-by t (Step.goesOn j k e g h) = goes-on-nested j (omega arith) g
-    nested-by t (Step.halted o j k l e g h) = goes-on-nested j (omega arith) g
-    nested-by t (Step.ends j pl c e) = absurd (rw pl at active)
-
   pub nested-kept : Nested p (tick p y r)
   nested-kept i low few active =
-      nested-by i low few active (tick-turns p y r a (s .formed) (s .prompt))
-      (tick-steps p y r (i + 1) a (s .formed) (omega arith) (omega arith))
+      on-active (tick-steps p y r (i + 1) a (s .formed) (omega arith) (omega arith)) active
+      (λ q new young.
+      starts-nested i low few active (asked-after i low few active (tick-turns p y r a (s .formed) (s .prompt)) q) new young)
+      (λ was more older. goes-on-nested i low few active was more older)

@@ -16,9 +16,9 @@ use Rattle.rules.specs.Theorems.{Accepts}
 use Rattle.rules.proofs.Ticks.Views.{turn, tick-base}
 use Rattle.rules.proofs.Ticks.Keeps.{keeps}
 use Rattle.rules.proofs.Promises.Stays.Stay.{some-left}
-use Rattle.rules.proofs.Promises.Stays.Moves.{Step}
 use Rattle.rules.proofs.Promises.Stays.Hears.{asked}
-use Rattle.rules.proofs.Promises.Stays.Ticked.{StepOf, tick-steps}
+use Rattle.rules.proofs.Promises.Stays.Ticked.{tick-steps}
+use Rattle.rules.proofs.Promises.Stays.Steps.{on-active}
 use Rattle.rules.proofs.Promises.Bases.Turns.{Turn}
 use Rattle.rules.proofs.Promises.Bases.Ticked.{TurnOf, tick-turns, lease-runs}
 use Rattle.rules.proofs.Promises.Safe.Clauses.{ActiveAt, spentAt, Reached, Safe}
@@ -60,14 +60,9 @@ module _ (p : Plan) (a : Accepts p) (y : Yard) (r : Record) (s : Safe p y) where
         by (Turn.expires over b c) =
             absurd (omega (arith, reach, left, s .covered j low used was, lease-runs (y .base) (y .lease) (omega (arith, reach))))
 
-    reach-by : TurnOf p y r → StepOf p y r j → j ≤ next
-    reach-by t (Step.rests i k) = absurd (k active)
-    reach-by t (Step.starts a i pl c) = asked-reached t a
-    reach-by t (Step.goesOn i k e g h) = stood-reached t i (omega arith)
-    reach-by t (Step.halted o i k l e g h) = stood-reached t i (omega arith)
-    reach-by t (Step.ends i pl c e) = absurd (rw pl at active)
-
   pub reached-kept : Reached p (tick p y r)
   reached-kept j low used active =
+      let t : TurnOf p y r = tick-turns p y r a (s .formed) (s .prompt) in
       rw (tick-base p y r)
-      (reach-by j low used active (tick-turns p y r a (s .formed) (s .prompt)) (tick-steps p y r j a (s .formed) low used))
+      (on-active (tick-steps p y r j a (s .formed) low used) active (λ q new young. asked-reached j low used active t q)
+      (λ was more older. stood-reached j low used active t was more))
