@@ -3,3 +3,5 @@ pub mod Stays
 pub mod Bases
 pub mod Safe
 pub mod History
+pub mod Spacing
+pub mod Rest

@@ -100,3 +100,21 @@ module _ (p : Plan) (y : Yard) (r : Record) where
 
     pub tick-turns : TurnOf
     tick-turns = settled (rising .kind)
+
+    -- While the base is away the lease clock adds 1 a tick.
+    pub tick-runs : 1 ≤ index → 1 ≤ baseIndex (tick p y r .base) → tick p y r .lease ≡ y .lease + 1
+    tick-runs was is = rw (tick-lease p y r) (by tick-turns)
+      where
+        one : leaseClock (y .base) (y .lease) ≡ y .lease + 1
+        one = lease-runs (y .base) (y .lease) was
+
+        away : 1 ≤ baseIndex (turn p y r .base)
+        away = rw (tick-base p y r) at is
+
+        by : TurnOf → turn p y r .lease ≡ y .lease + 1
+        by (Turn.rests a b c) = absurd (omega arith)
+        by (Turn.opens a b c d) = absurd (omega arith)
+        by (Turn.goesOn a b c d e f) = omega (arith, one)
+        by (Turn.holds a b c d) = omega (arith, one)
+        by (Turn.goesBack a b c d) = omega (arith, one, d away)
+        by (Turn.expires a b c) = absurd (omega (arith, away))
