@@ -5,3 +5,4 @@ pub mod Safe
 pub mod History
 pub mod Spacing
 pub mod Rest
+pub mod Bytes

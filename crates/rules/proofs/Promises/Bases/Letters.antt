@@ -53,22 +53,22 @@ module _ (p : Plan) (a : Accepts p) (r : Record) (i : ℕ) where
   no-letter place.FallBack c =
       let c' : ℕ = stopsAt (slot p i .F) c in
       on-heed p i r True (at place.FallBack c' letter.None) tt
-      (on-cond True (eqb c' (slot p i .F)) (λ e. tt) (λ e. tt)) (λ last. tt)
+      (on-cond True (eqb c' (slot p i .F)) (λ e. tt) (λ e. tt)) (λ last c. tt)
   no-letter place.Requesting c =
       on-cond True (eqb (c + 1) (p .Q)) (λ e. tt)
-      (λ e. on-heed p i r True (at place.Requesting (c + 1) letter.None) tt tt (λ last. tt))
+      (λ e. on-heed p i r True (at place.Requesting (c + 1) letter.None) tt tt (λ last c. tt))
   no-letter place.Entering c =
       on-cond True (eqb (c + 1) (slot p i .E)) (λ e. tt)
-      (λ e. on-heed p i r True (at place.Entering (c + 1) letter.None) tt tt (λ last. tt))
+      (λ e. on-heed p i r True (at place.Entering (c + 1) letter.None) tt tt (λ last c. tt))
   no-letter place.Running c =
       on-cond True (eqb (c + 1) (slot p i .R)) (λ e. tt)
-      (λ e. on-heed p i r True (at place.Running (c + 1) letter.None) tt tt (λ last. tt))
+      (λ e. on-heed p i r True (at place.Running (c + 1) letter.None) tt tt (λ last c. tt))
   no-letter place.Exiting1 c =
       on-cond True (eqb (c + 1) (slot p i .X)) (λ e q. q)
-      (λ e. on-heed p i r True (at place.Exiting1 (c + 1) letter.None) tt tt (λ last. tt))
+      (λ e. on-heed p i r True (at place.Exiting1 (c + 1) letter.None) tt tt (λ last c. tt))
   no-letter place.Exiting2 c =
       on-cond True (eqb (c + 1) (slot p i .X)) (λ e q. q)
-      (λ e. on-heed p i r True (at place.Exiting2 (c + 1) letter.None) tt tt (λ last. tt))
+      (λ e. on-heed p i r True (at place.Exiting2 (c + 1) letter.None) tt tt (λ last c. tt))
 
   approve : i < p .N → True (risenFrom place.Entering 0 letter.Approve)
   unfolding deviceClock moved due dueMove heedRequest heedCancel
@@ -77,14 +77,14 @@ module _ (p : Plan) (a : Accepts p) (r : Record) (i : ℕ) where
       let still : Entered p i place.Entering 1 =
       record { active = tt; some = omega arith; few = omega arith } in
       on-cond True (eqb 1 (slot p i .E)) (λ e. record { active = tt; some = omega tests; few = omega tests })
-      (λ e. on-heed p i r True (at place.Entering 1 letter.Approve) still still (λ last. absurd (omega arith)))
+      (λ e. on-heed p i r True (at place.Entering 1 letter.Approve) still still (λ last c. absurd (omega arith)))
 
   deny : i < p .N → (c : ℕ) → True (risenFrom place.FallBack c letter.Deny)
   unfolding deviceClock moved due dueMove heedRequest heedCancel
   deny below c =
       let c' : ℕ = stopsAt (slot p i .F) c in
       on-heed p i r True (at place.FallBack c' letter.Deny) (λ q. q)
-      (on-cond True (eqb c' (slot p i .F)) (λ e. tt) (λ e q. q)) (λ last. absurd (omega arith))
+      (on-cond True (eqb c' (slot p i .F)) (λ e. tt) (λ e q. q)) (λ last c. absurd (omega arith))
 
   letter-true : (l : Letter) (pl : Place) (c : ℕ) → Lettered p i l pl c → True (risenFrom pl c l)
   letter-true letter.None pl c h = no-letter pl c

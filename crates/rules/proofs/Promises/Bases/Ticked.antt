@@ -91,7 +91,7 @@ module _ (p : Plan) (y : Yard) (r : Record) where
     settled (Turn.goesOn came low b c d e) =
         let unheard : calledOff (turn p y r .down) ≡ index → ⊥ =
         λ q. omega (arith, rising .calls (omega arith)) in
-        let same = tick-same p y r index a f low used unheard (came .active) in
+        let same = tick-same p y r index a f low used (λ q. omega arith) unheard in
         Turn.goesOn (rw (same .0, same .1) came) low b c d e
     settled (Turn.holds a b c d) = Turn.holds a b c d
     settled (Turn.goesBack gone b c d) =

@@ -53,7 +53,7 @@ Ready s place.Exiting2 c = ⊥
 
 pub data Hears (s : Slot) (Asked Off : Type 0) (u e : Device) : Type 0 where
   same : e .place ≡ u .place → e .clock ≡ u .clock → Hears s Asked Off u e
-  denies : u .place ≡ place.FallBack → e .place ≡ place.FallBack → e .clock ≡ 0 → Hears s Asked Off u e
+  denies : Asked → u .place ≡ place.FallBack → e .place ≡ place.FallBack → e .clock ≡ 0 → Hears s Asked Off u e
   starts : Asked → Ready s (u .place) (u .clock) → e .place ≡ place.Entering → e .clock ≡ 0 → Hears s Asked Off u e
   halted :
       Off → Active (u .place) → Active (e .place)
@@ -74,7 +74,7 @@ module _ (p : Plan) (i : ℕ) (x : Letter) where
   unfolding hearLeaseReq
   hears-lease l here w place.FallBack c =
       on-cond (Heard l place.FallBack c) (eqb c (slot p i .F))
-      (λ e. on-cond (Heard l place.FallBack c) w (λ q. starts here (eqb-true _ _ e) refl refl) (λ q. denies refl refl refl))
+      (λ e. on-cond (Heard l place.FallBack c) w (λ q. starts here (eqb-true _ _ e) refl refl) (λ q. denies here refl refl refl))
       (λ e. same refl refl)
   hears-lease l here w place.Requesting c = same refl refl
   hears-lease l here w place.Entering c = same refl refl

@@ -50,14 +50,14 @@ module _ (p : Plan) (i : ℕ) (r : Record) where
   pub on-heed :
       (P : Device → Type 0) (d : Device)
       → P d → P (heedRequest (slot p i) (d .place) (d .clock) (d .letter))
-      → (i ≡ p .N → P (heedCancel (d .place) (d .clock) (d .letter)))
+      → (i ≡ p .N → r .command ≡ cancel → P (heedCancel (d .place) (d .clock) (d .letter)))
       → P (cond (eqb i (p .N)) (heed (slot p i) (r .command) d) d)
   unfolding heed
   on-heed P d still requested cancelled =
       on-cond P (eqb i (p .N))
       (λ last.
       on-cond P (eqb (r .command) request) (λ e. requested)
-      (λ e. on-cond P (eqb (r .command) cancel) (λ e. cancelled (eqb-true _ _ last)) (λ e. still)))
+      (λ e. on-cond P (eqb (r .command) cancel) (λ e. cancelled (eqb-true _ _ last) (eqb-true _ _ e)) (λ e. still)))
       (λ e. still)
 
   -- Where a device goes in steps 1 and 2.
@@ -71,19 +71,19 @@ module _ (p : Plan) (i : ℕ) (r : Record) where
       let c' : ℕ = stopsAt (slot p i .F) c in
       on-heed (Onward place.FallBack c l) (at place.FallBack c' l) (rests (λ q. q) (λ q. q))
       (on-cond (Onward place.FallBack c l) (eqb c' (slot p i .F)) (λ e. rests (λ q. q) (λ q. q)) (λ e. rests (λ q. q) (λ q. q)))
-      (λ last. rests (λ q. q) (λ q. q))
+      (λ last c. rests (λ q. q) (λ q. q))
   moves-on place.Requesting c l h =
       on-cond (Onward place.Requesting c l) (eqb (c + 1) (p .Q)) (λ e. rests (λ q. q) (λ q. q))
       (λ e.
       let still : Onward place.Requesting c l (at place.Requesting (c + 1) l) = rests (λ q. q) (λ q. q) in
-      on-heed (Onward place.Requesting c l) (at place.Requesting (c + 1) l) still still (λ last. rests (λ q. q) (λ q. q)))
+      on-heed (Onward place.Requesting c l) (at place.Requesting (c + 1) l) still still (λ last c. rests (λ q. q) (λ q. q)))
   moves-on place.Entering c l h =
       on-cond (Onward place.Entering c l) (eqb (c + 1) (slot p i .E))
       (λ e. goesOn tt tt (omega tests) (omega tests) (λ q. refl))
       (λ e.
       let still : Onward place.Entering c l (at place.Entering (c + 1) l) = goesOn tt tt refl (omega arith) (λ q. q) in
       on-heed (Onward place.Entering c l) (at place.Entering (c + 1) l) still still
-      (λ last. halted last tt tt (omega arith) (omega arith) (omega arith) (λ q. q)))
+      (λ last c. halted last tt tt (omega arith) (omega arith) (omega arith) (λ q. q)))
   moves-on place.Running c l h =
       on-cond (Onward place.Running c l) (eqb (c + 1) (slot p i .R))
       (λ e. goesOn tt tt (omega tests) (omega tests) (λ q. refl))
@@ -91,19 +91,19 @@ module _ (p : Plan) (i : ℕ) (r : Record) where
       let still : Onward place.Running c l (at place.Running (c + 1) l) =
       goesOn tt tt (omega arith) (omega arith) (λ q. q) in
       on-heed (Onward place.Running c l) (at place.Running (c + 1) l) still still
-      (λ last. halted last tt tt (omega arith) (omega arith) (omega arith) (λ q. refl)))
+      (λ last c. halted last tt tt (omega arith) (omega arith) (omega arith) (λ q. refl)))
   moves-on place.Exiting1 c l h =
       on-cond (Onward place.Exiting1 c l) (eqb (c + 1) (slot p i .X)) (λ e. ends tt refl refl (omega tests))
       (λ e.
       let still : Onward place.Exiting1 c l (at place.Exiting1 (c + 1) l) =
       goesOn tt tt (omega arith) (omega arith) (λ q. q) in
-      on-heed (Onward place.Exiting1 c l) (at place.Exiting1 (c + 1) l) still still (λ last. still))
+      on-heed (Onward place.Exiting1 c l) (at place.Exiting1 (c + 1) l) still still (λ last c. still))
   moves-on place.Exiting2 c l h =
       on-cond (Onward place.Exiting2 c l) (eqb (c + 1) (slot p i .X)) (λ e. ends tt refl refl (omega tests))
       (λ e.
       let still : Onward place.Exiting2 c l (at place.Exiting2 (c + 1) l) =
       goesOn tt tt (omega arith) (omega arith) (λ q. q) in
-      on-heed (Onward place.Exiting2 c l) (at place.Exiting2 (c + 1) l) still still (λ last. still))
+      on-heed (Onward place.Exiting2 c l) (at place.Exiting2 (c + 1) l) still still (λ last c. still))
 
   pub steps-up :
       (d : Device) → Placed p i (d .place) (d .clock)

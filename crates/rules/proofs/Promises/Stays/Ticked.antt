@@ -33,20 +33,20 @@ ready-idle s place.Exiting2 c h l = h
 module _ (s : Slot) (some : 1 ≤ s .F) (Last Asked Off Either : Type 0) (last : Last → Either) (off : Off → Either) (d u e : Device) where
   joined : Step s ⊥ Last d u → Hears s Asked Off u e → Step s Asked Either d e
   joined (Step.rests i j) (Hears.same pl c) = Step.rests i (rw pl j)
-  joined (Step.rests i j) (Hears.denies at pl c) = Step.rests i (rw pl (λ q. q))
+  joined (Step.rests i j) (Hears.denies q at pl c) = Step.rests i (rw pl (λ q. q))
   joined (Step.rests i j) (Hears.starts a h pl c) = Step.starts a i pl c
   joined (Step.rests i j) (Hears.halted o k l x y z w) = absurd (j k)
   joined (Step.starts a i k l) h = absurd a
   joined (Step.goesOn i j k l m) (Hears.same pl c) = Step.goesOn i (rw pl j) (rw (pl, c) k) (rw (pl, c) l) (rw pl m)
-  joined (Step.goesOn i j k l m) (Hears.denies at pl c) = absurd (rw at at j)
+  joined (Step.goesOn i j k l m) (Hears.denies q at pl c) = absurd (rw at at j)
   joined (Step.goesOn i j k l m) (Hears.starts a h pl c) = absurd (ready-idle s (u .place) (u .clock) h j)
   joined (Step.goesOn i j k l m) (Hears.halted o i' j' x y z w) = Step.halted (off o) i j' (omega arith) y (omega arith) (λ q. w (m q))
   joined (Step.halted o i j x k l m) (Hears.same pl c) = Step.halted (last o) i (rw pl j) x (rw (pl, c) k) (rw (pl, c) l) (rw pl m)
-  joined (Step.halted o i j x k l m) (Hears.denies at pl c) = absurd (rw at at j)
+  joined (Step.halted o i j x k l m) (Hears.denies q at pl c) = absurd (rw at at j)
   joined (Step.halted o i j x k l m) (Hears.starts a h pl c) = absurd (ready-idle s (u .place) (u .clock) h j)
   joined (Step.halted o i j x k l m) (Hears.halted o' i' j' x' y z w) = absurd (omega arith)
   joined (Step.ends i at zero k) (Hears.same pl c) = Step.ends i (pl ∙ at) (c ∙ zero) k
-  joined (Step.ends i at zero k) (Hears.denies at' pl c) = Step.ends i pl c k
+  joined (Step.ends i at zero k) (Hears.denies q at' pl c) = Step.ends i pl c k
   joined (Step.ends i at zero k) (Hears.starts a h pl c) = let rested : u .clock ≡ s .F = rw at at h in absurd (omega arith)
   joined (Step.ends i at zero k) (Hears.halted o j j' x y z w) = absurd (rw at at j)
 
@@ -83,19 +83,19 @@ module _ (p : Plan) (y : Yard) (r : Record) (i : ℕ) where
       where
         stays-idle : HearsOf → Idle (device (tick p y r) i .place)
         stays-idle (Hears.same pl c) = rw pl idle
-        stays-idle (Hears.denies at pl c) = rw pl (λ q. q)
-        stays-idle (Hears.starts a h pl c) = absurd (unasked a)
+        stays-idle (Hears.denies q at pl c) = absurd (unasked q)
+        stays-idle (Hears.starts q h pl c) = absurd (unasked q)
         stays-idle (Hears.halted o k l x y z w) = absurd (idle k)
 
-    -- One that is active then, and is not called off, ends the tick as it was.
+    -- One that is neither asked nor called off ends the tick as it was then.
     abbrev Same : Type 0
     Same = (device (tick p y r) i .place ≡ up p y r i .place) × (device (tick p y r) i .clock ≡ up p y r i .clock)
 
-    pub tick-same : (calledOff (turn p y r .down) ≡ i → ⊥) → Active (up p y r i .place) → Same
-    tick-same kept active = stays-same tick-hears
+    pub tick-same : (asked (turn p y r .down) ≡ i → ⊥) → (calledOff (turn p y r .down) ≡ i → ⊥) → Same
+    tick-same unasked kept = stays-same tick-hears
       where
         stays-same : HearsOf → Same
         stays-same (Hears.same pl c) = (pl, c)
-        stays-same (Hears.denies at pl c) = absurd (rw at at active)
-        stays-same (Hears.starts a h pl c) = absurd (ready-idle (slot p i) (up p y r i .place) (up p y r i .clock) h active)
+        stays-same (Hears.denies q at pl c) = absurd (unasked q)
+        stays-same (Hears.starts q h pl c) = absurd (unasked q)
         stays-same (Hears.halted o k l x y z w) = absurd (kept o)
