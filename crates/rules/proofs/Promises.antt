@@ -6,3 +6,4 @@ pub mod History
 pub mod Spacing
 pub mod Rest
 pub mod Bytes
+pub mod Blade

@@ -1,0 +1,4 @@
+-- Promise 5.
+pub mod Calm
+pub mod Rises
+pub mod Base
