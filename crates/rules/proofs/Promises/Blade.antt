@@ -11,17 +11,15 @@ use Prim.Native.Nat.{ℕ, zero, suc, _+_, _-_, _≤_, _<_}
 use native.Mathlib.Omega.{arith}
 use native.Mathlib.Nat.{add-suc}
 use native.Mathlib.Numerals.{add-one}
-use mathlib.Core.Path.{_≡_, refl, sym, _∙_, ap}
+use mathlib.Core.Path.{_≡_, sym, _∙_, ap}
 use mathlib.Core.List.{List}
 use lib.Dec.{ltb}
 use Rattle.laws.proofs.Tests.{tests, case}
 use Rattle.rules.specs.declared.Plan.{Plan}
 use Rattle.rules.specs.declared.Yard.{Yard}
-use Rattle.rules.specs.declared.Place.{Place}
 use Rattle.rules.specs.declared.Place.the-variants as place
 use Rattle.rules.specs.Plan.{slot}
-use Rattle.rules.specs.Yard.{device, placeNumber}
-use Rattle.rules.specs.Tick.{tick}
+use Rattle.rules.specs.Yard.{placeNumber}
 use Rattle.rules.specs.Tick.Input.{request}
 use Rattle.rules.specs.Tick.Step1.{step1}
 use Rattle.rules.specs.Run.{recordAt, after}

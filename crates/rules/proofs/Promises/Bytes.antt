@@ -1,20 +1,17 @@
 -- Promises 1 to 3 hold of the bytes that a run leaves in its buffer: each byte shows who is engaged at its tick.
-use Prim.Native.Nat.{ℕ, zero, suc, _+_, _-_, _≤_, _<_}
+use Prim.Native.Nat.{ℕ, zero, suc, _+_, _-_, _≤_}
 use native.Mathlib.Omega.{arith}
 use mathlib.Core.Path.{_≡_, refl, sym, _∙_, ap}
-use mathlib.Core.Bool.{Bool, true, false, and-true}
+use mathlib.Core.Bool.{Bool, and-true}
 use mathlib.Core.List.{List, [], _∷_, _++_}
-use lib.Dec.{leb}
 use lib.ListN.{getD}
 use borrow.Author.Tests.{le-leb}
 use Rattle.laws.specs.Tests.{allOf}
 use Rattle.laws.specs.Lists.{tabulate}
-use Rattle.laws.specs.Bits.{bit}
-use Rattle.laws.proofs.Tests.{tests, case, fails}
+use Rattle.laws.proofs.Tests.{fails}
 use Rattle.laws.proofs.Lists.{tabulate-at}
 use Rattle.rules.specs.declared.Plan.{Plan}
-use Rattle.rules.specs.Plan.{slot}
-use Rattle.rules.specs.Yard.{device, engaged, freshYard}
+use Rattle.rules.specs.Yard.{freshYard}
 use Rattle.rules.specs.Run.{after, engagedByte, engagedBytes}
 use Rattle.rules.specs.Theorems.{Accepts}
 use Rattle.rules.specs.Promises.{yardAfter, placeAt, engagedAt, Kept, shown, BytesKept}

@@ -1,15 +1,13 @@
 -- The history of one device: what it has spent of its stay tells how long it has been and will be engaged.
 use Prim.Native.Nat.{ℕ, zero, suc, _+_, _-_, _≤_, _<_}
 use native.Mathlib.Omega.{arith}
-use native.Mathlib.Nat.{add-zero, add-suc}
-use mathlib.Core.Path.{_≡_, refl, sym, ap}
-use mathlib.Core.Bool.{true, false, false≢true}
+use native.Mathlib.Nat.{add-suc}
+use mathlib.Core.Path.{_≡_}
+use mathlib.Core.Bool.{true}
 use mathlib.Core.List.{List}
 use Rattle.rules.specs.declared.Plan.{Plan}
-use Rattle.rules.specs.declared.Yard.{Yard}
-use Rattle.rules.specs.declared.Place.the-variants as place
-use Rattle.rules.specs.Plan.{slot, stay}
-use Rattle.rules.specs.Yard.{device, engaged}
+use Rattle.rules.specs.Plan.{slot}
+use Rattle.rules.specs.Yard.{device}
 use Rattle.rules.specs.Run.{recordAt, after}
 use Rattle.rules.specs.Theorems.{Accepts}
 use Rattle.rules.specs.Promises.{yardAfter, placeAt, engagedAt}
@@ -49,7 +47,7 @@ module _ (p : Plan) (a : Accepts p) (roll : List ℕ) (i : ℕ) (low : 1 ≤ i) 
       rw (add-suc t k)
       (on-active (steps (t + k)) (engaged-active (placeAt p roll i (suc (t + k))) is)
       (λ new spent age. absurd (omega (arith, past (suc (t + k)) is, a .deviceTimes i low used .1 .low)))
-      (λ was more older. omega arith))
+      (λ h more. omega arith))
 
   -- A device in Running that has been there for k ticks was engaged k ticks before, and not before tick 1.
   pub was-engaged :

@@ -7,16 +7,14 @@ use mathlib.Core.List.{List}
 use Rattle.rules.specs.declared.Plan.{Plan}
 use Rattle.rules.specs.declared.Base.{Base}
 use Rattle.rules.specs.declared.Base.the-variants as base
-use Rattle.rules.specs.declared.Place.{Place}
 use Rattle.rules.specs.Plan.{LS}
-use Rattle.rules.specs.Yard.{device}
 use Rattle.rules.specs.Tick.Step3.{baseIndex}
 use Rattle.rules.specs.Run.{recordAt, after}
 use Rattle.rules.specs.Theorems.{Accepts}
 use Rattle.rules.specs.Promises.{yardAfter, placeAt, LeasesEnd, RestIsSafe}
 use Rattle.rules.proofs.Plans.Accepted.{accepted-exactly}
 use Rattle.rules.proofs.States.Formed.{Based}
-use Rattle.rules.proofs.Promises.Stays.Stay.{Active, Idle}
+use Rattle.rules.proofs.Promises.Stays.Stay.{Idle}
 use Rattle.rules.proofs.Promises.Bases.Ticked.{tick-runs}
 use Rattle.rules.proofs.Promises.Safe.Always.{always-safe}
 
@@ -50,7 +48,7 @@ module _ (p : Plan) (a : Accepts p) (roll : List ℕ) where
 pub leases-end : LeasesEnd
 leases-end p roll t e off =
     let a : Accepts p = accepted-exactly p .0 e in
-    omega (arith, counts p a roll t (LS p) off, away-at p a roll (t + LS p) (off (LS p) (omega arith)) .1)
+    omega (arith, counts p a roll t (LS p) (λ k h. off k (omega arith)), away-at p a roll (t + LS p) (off (LS p) (omega arith)) .1)
 
 pub rest-is-safe : RestIsSafe
 rest-is-safe p roll t i e low high rest =

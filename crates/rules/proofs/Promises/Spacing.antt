@@ -1,15 +1,14 @@
 -- Promises 1 to 3: no stay is too long, and neighbours are engaged one within the other, with their spacing.
-use Prim.Native.Nat.{ℕ, _+_, _-_, _≤_, _<_}
+use Prim.Native.Nat.{ℕ, _+_, _≤_, _<_}
 use native.Mathlib.Omega.{arith}
-use mathlib.Core.Path.{_≡_, refl}
+use mathlib.Core.Path.{_≡_}
 use mathlib.Core.Bool.{true}
-use mathlib.Core.List.{List}
 use Rattle.rules.specs.declared.Plan.{Plan}
 use Rattle.rules.specs.declared.Yard.{Yard}
 use Rattle.rules.specs.Plan.{slot, stay}
 use Rattle.rules.specs.Yard.{device, engaged}
 use Rattle.rules.specs.Theorems.{Accepts}
-use Rattle.rules.specs.Promises.{yardAfter, placeAt, engagedAt, Kept, StaysAndSpacing, Spaced, SpacedAsPlanned}
+use Rattle.rules.specs.Promises.{yardAfter, engagedAt, Kept, StaysAndSpacing, SpacedAsPlanned}
 use Rattle.rules.proofs.Plans.Accepted.{accepted-exactly}
 use Rattle.rules.proofs.Promises.Stays.Stay.{engaged-active, some-left, engaged-past, engaged-between}
 use Rattle.rules.proofs.Promises.Safe.Clauses.{ActiveAt, spentAt, Nest, Safe}
@@ -46,7 +45,7 @@ stays-and-spacing p roll n e =
     let a : Accepts p = accepted-exactly p .0 e in
     let safe : (t : ℕ) → Safe p (yardAfter p roll t) = always-safe p a roll in
     record {
-      stays = λ i t low high far all. stays-short p a roll i low high t all;
+      stays = λ i t low high far all. stays-short p a roll i low high t (λ k h. all k (omega arith));
       before =
           λ i t k low few far is near.
           let w = within p a (yardAfter p roll t) (safe t) i low few is in

@@ -2,8 +2,6 @@
 -- it is idle.
 use Prim.Native.Nat.{ℕ, _+_, _≤_, _<_}
 use native.Mathlib.Omega.{arith}
-use mathlib.Core.Path.{_≡_, refl}
-use mathlib.Core.Bool.{Bool, true, false}
 use lib.Dec.{eqb}
 use Rattle.laws.proofs.Tests.{tests, on-cond}
 use Rattle.rules.specs.declared.Plan.{Plan}
@@ -21,7 +19,7 @@ use Rattle.rules.specs.Tick.Step1.{stopsAt, deviceClock, clocked}
 use Rattle.rules.specs.Tick.Step2.{due, dueMove, heedRequest, heedCancel, moved, movedAt}
 use Rattle.rules.specs.Tick.Step3.{heard}
 use Rattle.rules.specs.Theorems.{Accepts}
-use Rattle.rules.proofs.States.Formed.{Placed, Lettered, Formed}
+use Rattle.rules.proofs.States.Formed.{Lettered, Formed}
 use Rattle.rules.proofs.Ticks.Views.{risen, up, heard-used}
 use Rattle.rules.proofs.Promises.Stays.Stay.{Active, Idle, spent}
 use Rattle.rules.proofs.Promises.Stays.Moves.{on-heed}

@@ -3,14 +3,16 @@
 use Prim.Native.Nat.{ℕ, _+_, _*_, _≤_, _<_}
 use native.Mathlib.Omega.{arith}
 use mathlib.Core.Path.{_≡_, refl}
-use borrow.Author.Tests.{lt-ltb}
+use lib.Dec.{eqb}
+use borrow.Author.Tests.{eqb-true, lt-ltb}
+use Rattle.laws.proofs.Tests.{tests, case}
 use Rattle.rules.specs.declared.Plan.{Plan}
 use Rattle.rules.specs.declared.Yard.{Yard}
 use Rattle.rules.specs.declared.Record.{Record}
 use Rattle.rules.specs.declared.Device.{Device}
 use Rattle.rules.specs.declared.Base.{Base}
 use Rattle.rules.specs.declared.Base.the-variants as base
-use Rattle.rules.specs.Plan.{slot, terms}
+use Rattle.rules.specs.Plan.{LS, terms}
 use Rattle.rules.specs.Yard.{device}
 use Rattle.rules.specs.Tick.{tick}
 use Rattle.rules.specs.Tick.Input.{approval}
@@ -20,7 +22,7 @@ use Rattle.rules.specs.Theorems.{Accepts}
 use Rattle.rules.proofs.States.Formed.{Based, Formed}
 use Rattle.rules.proofs.Ticks.Views.{turn, up, tick-base, tick-clock, tick-lease}
 use Rattle.rules.proofs.Ticks.Keeps.Base.{clock-kept}
-use Rattle.rules.proofs.Promises.Stays.Stay.{Idle}
+use Rattle.rules.proofs.Promises.Stays.Stay.{Active, Idle}
 use Rattle.rules.proofs.Promises.Stays.Hears.{asked, calledOff}
 use Rattle.rules.proofs.Promises.Stays.Ticked.{tick-idle, tick-same}
 use Rattle.rules.proofs.Promises.Bases.Letters.{Entered, heard-true}
@@ -64,8 +66,15 @@ module _ (p : Plan) (y : Yard) (r : Record) where
   abbrev TurnBy : Device → Type 0
   TurnBy u = Turn p (Entered p index (u .place) (u .clock)) (Idle (u .place)) index (leaseClock (y .base) (y .lease)) (turn p y r)
 
-  abbrev pub TurnOf : Type 0
+  abbrev TurnOf : Type 0
   TurnOf = TurnBy finally
+
+  -- What a device that is asked may take for granted.
+  pub record Asks (j : ℕ) : Type 0 where
+    pub reached : j ≤ baseIndex (tick p y r .base)
+    pub early : tick p y r .lease + p .W ≤ j * p .W
+    pub after :
+        (i : ℕ) → 1 ≤ i → j ≡ i + 1 → Entered p i (device (tick p y r) i .place) (device (tick p y r) i .clock)
 
   module _ (a : Accepts p) (f : Formed p y) (soon : Prompt p (y .base) (y .clock) (y .lease)) where
     rising :
@@ -98,12 +107,12 @@ module _ (p : Plan) (y : Yard) (r : Record) where
         Turn.goesBack (tick-idle p y r index a f (omega arith) used (λ q. omega arith) gone) b c d
     settled (Turn.expires a b c) = Turn.expires a b c
 
-    pub tick-turns : TurnOf
-    tick-turns = settled (rising .kind)
+    turns : TurnOf
+    turns = settled (rising .kind)
 
     -- While the base is away the lease clock adds 1 a tick.
     pub tick-runs : 1 ≤ index → 1 ≤ baseIndex (tick p y r .base) → tick p y r .lease ≡ y .lease + 1
-    tick-runs was is = rw (tick-lease p y r) (by tick-turns)
+    tick-runs was is = rw (tick-lease p y r) (by turns)
       where
         one : leaseClock (y .base) (y .lease) ≡ y .lease + 1
         one = lease-runs (y .base) (y .lease) was
@@ -118,3 +127,43 @@ module _ (p : Plan) (y : Yard) (r : Record) where
         by (Turn.holds a b c d) = omega (arith, one)
         by (Turn.goesBack a b c d) = omega (arith, one, d away)
         by (Turn.expires a b c) = absurd (omega (arith, away))
+
+    -- The base leaves a device behind only when it is out, or when the lease is over.
+    pub tick-leaves :
+        (j : ℕ) → 1 ≤ j → j ≤ index → Active (device (tick p y r) j .place) → y .lease + 1 < LS p
+        → j ≤ baseIndex (tick p y r .base)
+    tick-leaves j low reach active early = rw (tick-base p y r) (by turns)
+      where
+        by : TurnOf → j ≤ baseIndex (turn p y r .base)
+        by (Turn.rests a b c) = absurd (omega (arith, reach))
+        by (Turn.opens a b c d) = absurd (omega (arith, reach))
+        by (Turn.goesOn a b c d e f) = omega (arith, reach)
+        by (Turn.holds a b c d) = omega (arith, reach)
+        by (Turn.goesBack gone b c d) =
+            case (eqb j index) (λ e. absurd (gone (rw (eqb-true j index e) at active))) (λ e. omega (tests, reach))
+        by (Turn.expires over b c) = absurd (omega (arith, early, lease-runs (y .base) (y .lease) (omega (arith, reach))))
+
+    -- The device that is asked is that of the base's new place, it is asked within (j-1) × W ticks of the lease, and the one
+    -- below it has just entered.
+    pub tick-asks : (j : ℕ) → 1 ≤ j → asked (turn p y r .down) ≡ j → Asks j
+    tick-asks j low ask = by turns
+      where
+        by : TurnOf → Asks j
+        by (Turn.rests a b c) = absurd (omega arith)
+        by (Turn.opens a b c d) =
+            let one : j ≡ 1 = omega arith in
+            record {
+              reached = rw (tick-base p y r) (omega arith);
+              early = rw one (omega (arith, tick-lease p y r));
+              after = λ i some next. absurd (omega arith);
+            }
+        by (Turn.goesOn came b c d e f) =
+            let one : j ≡ index + 1 = omega arith in
+            record {
+              reached = rw (tick-base p y r) (omega arith);
+              early = rw one (omega (arith, tick-lease p y r));
+              after = λ i some next. let here : index ≡ i = omega arith in rw here at came;
+            }
+        by (Turn.holds a b c d) = absurd (omega arith)
+        by (Turn.goesBack a b c d) = absurd (omega arith)
+        by (Turn.expires a b c) = absurd (omega arith)

@@ -3,7 +3,7 @@
 use Prim.Native.Nat.{ℕ, _+_, _-_, _*_, _≤_, _<_}
 use native.Mathlib.Omega.{arith}
 use mathlib.Core.Path.{_≡_, refl, subst}
-use mathlib.Core.Bool.{Bool, true, false, not}
+use mathlib.Core.Bool.{Bool, true, not}
 use mathlib.Core.List.{[], _∷_}
 use lib.Dec.{ltb, eqb}
 use borrow.Author.Tests.{eqb-true, ltb-true, ltb-false}
@@ -15,9 +15,8 @@ use Rattle.rules.specs.declared.Base.the-variants as base
 use Rattle.rules.specs.declared.Letter.{Letter}
 use Rattle.rules.specs.declared.Letter.the-variants as letter
 use Rattle.rules.specs.declared.Down.{Down}
-use Rattle.rules.specs.declared.Down.the-variants as down
 use Rattle.rules.specs.declared.BaseMove.{BaseMove}
-use Rattle.rules.specs.Plan.{slot, LS, terms}
+use Rattle.rules.specs.Plan.{LS, terms}
 use Rattle.rules.specs.Yard.{sameLetter}
 use Rattle.rules.specs.Tick.Step3.{fallsBack, stays, cancels, aborts, below, leases, inFallBack, inLease, inLeaseN, callsOff, baseMove, baseIndex}
 use Rattle.rules.specs.Theorems.{Accepts}

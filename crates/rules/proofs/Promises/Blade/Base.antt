@@ -1,9 +1,7 @@
 -- What the base does on the way to the blade: it opens the lease, goes on to the next device, and holds at the last.
-use Prim.Native.Nat.{ℕ, _+_, _≤_, _<_}
-use native.Mathlib.Omega.{arith}
-use mathlib.Core.Path.{_≡_, refl}
-use mathlib.Core.Bool.{Bool, true, false}
-use lib.Dec.{eqb, ltb}
+use Prim.Native.Nat.{ℕ, _≤_, _<_}
+use mathlib.Core.Path.{_≡_}
+use mathlib.Core.Bool.{Bool, true}
 use borrow.Author.Tests.{eq-eqb, ne-eqb, lt-ltb, le-ltb}
 use Rattle.laws.specs.Tests.{allOf}
 use Rattle.rules.specs.declared.Base.{Base}
@@ -12,7 +10,6 @@ use Rattle.rules.specs.declared.Terms.{Terms}
 use Rattle.rules.specs.declared.Letter.{Letter}
 use Rattle.rules.specs.declared.Letter.the-variants as letter
 use Rattle.rules.specs.declared.Down.the-variants as down
-use Rattle.rules.specs.Yard.{sameLetter}
 use Rattle.rules.specs.Tick.Step3.{goes, stays, leases, inFallBack, inLease, inLeaseN, baseMove}
 
 module _ (t : Terms) (approved : Bool) (last own : Letter) (b : Base) (c l : ℕ) (yes' : approved ≡ true) where

@@ -1,5 +1,5 @@
 -- The request's tick in a rested yard: the lease comes to device 1.
-use Prim.Native.Nat.{ℕ, _+_, _≤_, _<_}
+use Prim.Native.Nat.{ℕ, _≤_}
 use native.Mathlib.Omega.{arith}
 use mathlib.Core.Path.{_≡_, refl, _∙_, ap}
 use Rattle.rules.specs.declared.Plan.{Plan}

@@ -1,10 +1,8 @@
 -- An undisturbed tick while the lease is on its way: it comes to the next device, and from the last participant to the
 -- initializer.
-use Prim.Native.Nat.{ℕ, _+_, _-_, _≤_, _<_}
+use Prim.Native.Nat.{ℕ, _+_, _≤_, _<_}
 use native.Mathlib.Omega.{arith}
-use mathlib.Core.Path.{_≡_, refl, sym, _∙_, ap}
-use mathlib.Core.Bool.{cond}
-use lib.Dec.{eqb}
+use mathlib.Core.Path.{_≡_, _∙_, ap}
 use borrow.Author.Tests.{eq-eqb, ne-eqb}
 use Rattle.rules.specs.declared.Plan.{Plan}
 use Rattle.rules.specs.declared.Yard.{Yard}
@@ -15,7 +13,7 @@ use Rattle.rules.specs.declared.Place.the-variants as place
 use Rattle.rules.specs.declared.Letter.the-variants as letter
 use Rattle.rules.specs.declared.Down.the-variants as down
 use Rattle.rules.specs.declared.Device.{Device}
-use Rattle.rules.specs.Plan.{LS, terms}
+use Rattle.rules.specs.Plan.{terms}
 use Rattle.rules.specs.Yard.{device}
 use Rattle.rules.specs.Tick.{tick}
 use Rattle.rules.specs.Tick.Input.{approval}
@@ -28,7 +26,7 @@ use Rattle.rules.proofs.Ticks.Views.{risen, turn, up, tick-base, tick-l
 use Rattle.rules.proofs.Promises.Stays.Hears.{asked, calledOff}
 use Rattle.rules.proofs.Promises.Bases.Ticked.{lease-runs}
 use Rattle.rules.proofs.Promises.Blade.Calm.{all-heard}
-use Rattle.rules.proofs.Promises.Blade.Rises.{Stands, Rests, approve-rises, wait-rises}
+use Rattle.rules.proofs.Promises.Blade.Rises.{Stands, approve-rises, wait-rises}
 use Rattle.rules.proofs.Promises.Blade.Base.{goes-on}
 use Rattle.rules.proofs.Promises.Blade.States.{Asking, Granted, wait-fits, stay-fits, silent}
 use Rattle.rules.proofs.Promises.Blade.Ticked.{enters-asked, enters-granted, stands-still, rests-still}

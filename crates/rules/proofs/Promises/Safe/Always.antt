@@ -1,5 +1,5 @@
 -- A fresh yard meets the invariant and a tick keeps it, so it holds after every tick of every roll.
-use Prim.Native.Nat.{ℕ, zero, suc, _+_, _-_, _≤_, _<_}
+use Prim.Native.Nat.{ℕ, zero, suc, _+_, _-_, _≤_}
 use native.Mathlib.Omega.{arith}
 use mathlib.Core.Path.{_≡_, refl}
 use mathlib.Core.List.{List}
@@ -15,9 +15,8 @@ use Rattle.rules.specs.Promises.{yardAfter}
 use Rattle.rules.proofs.States.Formed.{Formed}
 use Rattle.rules.proofs.Ticks.Keeps.{keeps}
 use Rattle.rules.proofs.Promises.Stays.Stay.{Idle}
-use Rattle.rules.proofs.Promises.Stays.Ticked.{StepOf, tick-steps}
-use Rattle.rules.proofs.Promises.Bases.Ticked.{TurnOf, tick-turns, tick-prompt}
-use Rattle.rules.proofs.Promises.Safe.Clauses.{ActiveAt, Reached, Safe}
+use Rattle.rules.proofs.Promises.Bases.Ticked.{tick-prompt}
+use Rattle.rules.proofs.Promises.Safe.Clauses.{Reached, Safe}
 use Rattle.rules.proofs.Promises.Safe.Reach.{reached-kept}
 use Rattle.rules.proofs.Promises.Safe.Cover.{covered-kept}
 use Rattle.rules.proofs.Promises.Safe.Nest.{nested-kept}

@@ -1,5 +1,5 @@
 -- After a tick every active device is nested in the one below it.
-use Prim.Native.Nat.{ℕ, _+_, _*_, _≤_, _<_}
+use Prim.Native.Nat.{ℕ, _+_, _≤_, _<_}
 use native.Mathlib.Omega.{arith}
 use mathlib.Core.Path.{_≡_, refl}
 use Rattle.rules.specs.declared.Plan.{Plan}
@@ -13,13 +13,12 @@ use Rattle.rules.specs.Theorems.{Accepts}
 use Rattle.rules.proofs.Ticks.Views.{turn}
 use Rattle.rules.proofs.Ticks.Keeps.{keeps}
 use Rattle.rules.proofs.Promises.Stays.Stay.{some-left}
-use Rattle.rules.proofs.Promises.Stays.Moves.{Step}
-use Rattle.rules.proofs.Promises.Stays.Hears.{asked, calledOff}
+use Rattle.rules.proofs.Promises.Stays.Moves.{Stays, Step}
+use Rattle.rules.proofs.Promises.Stays.Hears.{calledOff}
 use Rattle.rules.proofs.Promises.Stays.Ticked.{StepOf, tick-steps}
 use Rattle.rules.proofs.Promises.Stays.Steps.{on-active}
 use Rattle.rules.proofs.Promises.Bases.Letters.{Entered}
-use Rattle.rules.proofs.Promises.Bases.Turns.{Turn}
-use Rattle.rules.proofs.Promises.Bases.Ticked.{TurnOf, tick-turns, tick-calls}
+use Rattle.rules.proofs.Promises.Bases.Ticked.{tick-asks, tick-calls}
 use Rattle.rules.proofs.Promises.Safe.Clauses.{ActiveAt, spentAt, ageAt, Reached, Nest, Nested, Safe}
 
 module _ (p : Plan) (a : Accepts p) (y : Yard) (r : Record) (s : Safe p y) (reached : Reached p (tick p y r)) where
@@ -28,14 +27,6 @@ module _ (p : Plan) (a : Accepts p) (y : Yard) (r : Record) (s : Safe p y) (reac
 
   module _ (i : ℕ) (low : 1 ≤ i) (few : i < p .N) (active : ActiveAt (tick p y r) (i + 1)) where
     -- Device i+1 starts: it was asked because device i has just entered.
-    asked-after : TurnOf p y r → asked (turn p y r .down) ≡ i + 1 → Entered p i (device end i .place) (device end i .clock)
-    asked-after (Turn.rests a b c) e = absurd (omega arith)
-    asked-after (Turn.opens a b c d) e = absurd (omega arith)
-    asked-after (Turn.goesOn came b c d e f) g = let here : baseIndex (y .base) ≡ i = omega arith in rw here at came
-    asked-after (Turn.holds a b c d) e = absurd (omega arith)
-    asked-after (Turn.goesBack a b c d) e = absurd (omega arith)
-    asked-after (Turn.expires a b c) e = absurd (omega arith)
-
     starts-nested :
         Entered p i (device end i .place) (device end i .clock) → spentAt p end (i + 1) ≡ 0 → ageAt p end (i + 1) ≡ 0
         → Nest p end i
@@ -49,12 +40,12 @@ module _ (p : Plan) (a : Accepts p) (y : Yard) (r : Record) (s : Safe p y) (reac
     -- Device i+1 was active: device i was, and goes on. It does not come to its end before, and it is not called off, since
     -- the base has not left device i+1.
     goes-on-nested :
-        ActiveAt y (i + 1) → spentAt p y (i + 1) + 1 ≤ spentAt p end (i + 1) → ageAt p end (i + 1) ≤ ageAt p y (i + 1) + 1
+        Stays (slot p (i + 1)) 1 (device y (i + 1)) (device end (i + 1)) → spentAt p y (i + 1) + 1 ≤ spentAt p end (i + 1)
         → Nest p end i
-    goes-on-nested was more older = by (tick-steps p y r i a (s .formed) low (omega arith))
+    goes-on-nested h more = by (tick-steps p y r i a (s .formed) low (omega arith))
       where
         n : Nest p y i
-        n = s .nested i low few was
+        n = s .nested i low few (h .was)
 
         left : spentAt p end (i + 1) < stay p (i + 1)
         left =
@@ -62,20 +53,25 @@ module _ (p : Plan) (a : Accepts p) (y : Yard) (r : Record) (s : Safe p y) (reac
             (keeps p a y r (s .formed) .placed (i + 1) (omega arith) (omega (arith, a .devices)) (omega arith)) active
 
         by : StepOf p y r i → Nest p end i
-        by (Step.rests j k) = absurd (j (n .active))
-        by (Step.starts q j pl c) = absurd (j (n .active))
-        by (Step.goesOn j k e g h) =
-            record { active = k; outlasts = omega (arith, n .outlasts); precedes = omega (arith, n .precedes) }
-        by (Step.halted o j k l e g h) =
+        by (Step.rests idle still) = absurd (idle (n .active))
+        by (Step.starts ask idle pl c) = absurd (idle (n .active))
+        by (Step.goesOn k one) =
+            record {
+              active = k .is;
+              outlasts = omega (arith, n .outlasts);
+              precedes = omega (arith, n .precedes, h .older);
+            }
+        by (Step.halted o k before all) =
             let off : calledOff (turn p y r .down) ≡ i = o few in
             let here : calledOff (turn p y r .down) ≡ baseIndex (end .base) =
             tick-calls p y r a (s .formed) (s .prompt) (omega arith) in
             absurd (omega (arith, reached (i + 1) (omega arith) (omega arith) active))
-        by (Step.ends j pl c e) = absurd (omega (arith, n .outlasts, left))
+        by (Step.ends was one pl c) = absurd (omega (arith, n .outlasts, left))
 
   pub nested-kept : Nested p (tick p y r)
   nested-kept i low few active =
       on-active (tick-steps p y r (i + 1) a (s .formed) (omega arith) (omega arith)) active
-      (λ q new young.
-      starts-nested i low few active (asked-after i low few active (tick-turns p y r a (s .formed) (s .prompt)) q) new young)
-      (λ was more older. goes-on-nested i low few active was more older)
+      (λ ask new young.
+      let came = tick-asks p y r a (s .formed) (s .prompt) (i + 1) (omega arith) ask .after i low refl in
+      starts-nested i low few active came new young)
+      (λ h more. goes-on-nested i low few active h more)

@@ -1,14 +1,13 @@
 -- Step 4, as a stay sees it: the down letter leaves a device as it is, is denied by an idle one, starts a stay or halts it.
-use Prim.Native.Nat.{ℕ, _+_, _≤_, _<_}
+use Prim.Native.Nat.{ℕ, _+_, _<_}
 use native.Mathlib.Omega.{arith}
-use mathlib.Core.Path.{_≡_, refl, sym, _∙_}
-use mathlib.Core.Bool.{Bool, true, false, cond}
-use lib.Dec.{ltb, eqb}
+use mathlib.Core.Path.{_≡_, refl}
+use mathlib.Core.Bool.{Bool}
+use lib.Dec.{eqb}
 use borrow.Author.Tests.{eqb-true}
 use Rattle.laws.proofs.Tests.{tests, on-cond}
 use Rattle.rules.specs.declared.Plan.{Plan}
 use Rattle.rules.specs.declared.Slot.{Slot}
-use Rattle.rules.specs.declared.Yard.{Yard}
 use Rattle.rules.specs.declared.Place.{Place}
 use Rattle.rules.specs.declared.Place.the-variants as place
 use Rattle.rules.specs.declared.Letter.{Letter}
@@ -21,10 +20,9 @@ use Rattle.rules.specs.Plan.{slot}
 use Rattle.rules.specs.Yard.{at, engaged}
 use Rattle.rules.specs.Tick.Input.{downLost, willing}
 use Rattle.rules.specs.Tick.Step4.{hearLeaseReq, hearGrant, hearCancel, arrived, delivered}
-use Rattle.rules.specs.Theorems.{Accepts}
 use Rattle.rules.proofs.States.Formed.{Placed}
-use Rattle.rules.proofs.Promises.Stays.Stay.{Active, Idle, spent, age}
-use Rattle.rules.proofs.Promises.Stays.Moves.{Step}
+use Rattle.rules.proofs.Promises.Stays.Stay.{Idle, spent}
+use Rattle.rules.proofs.Promises.Stays.Moves.{Stays}
 
 -- The device that a down letter asks to start, and the one whose stay it calls off; 0 is nobody.
 abbrev pub asked : Down → ℕ
@@ -56,11 +54,7 @@ pub data Hears (s : Slot) (Asked Off : Type 0) (u e : Device) : Type 0 where
   denies : Asked → u .place ≡ place.FallBack → e .place ≡ place.FallBack → e .clock ≡ 0 → Hears s Asked Off u e
   starts : Asked → Ready s (u .place) (u .clock) → e .place ≡ place.Entering → e .clock ≡ 0 → Hears s Asked Off u e
   halted :
-      Off → Active (u .place) → Active (e .place)
-      → spent s (u .place) (u .clock) < s .E + s .R
-      → spent s (e .place) (e .clock) ≡ s .E + s .R
-      → age s (e .place) (e .clock) ≤ age s (u .place) (u .clock)
-      → (engaged (u .place) ≡ true → engaged (e .place) ≡ true)
+      Off → Stays s 0 u e → spent s (u .place) (u .clock) < s .E + s .R → spent s (e .place) (e .clock) ≡ s .E + s .R
       → Hears s Asked Off u e
 
 module _ (p : Plan) (i : ℕ) (x : Letter) where
@@ -96,8 +90,10 @@ module _ (p : Plan) (i : ℕ) (x : Letter) where
   unfolding hearCancel engaged
   hears-cancel l here place.FallBack c h = same refl refl
   hears-cancel l here place.Requesting c h = same refl refl
-  hears-cancel l here place.Entering c h = halted here tt tt (omega arith) (omega arith) (omega arith) (λ q. q)
-  hears-cancel l here place.Running c h = halted here tt tt (omega arith) (omega arith) (omega arith) (λ q. refl)
+  hears-cancel l here place.Entering c h =
+      halted here (record { was = tt; is = tt; older = omega arith; engages = λ q. q }) (omega arith) (omega arith)
+  hears-cancel l here place.Running c h =
+      halted here (record { was = tt; is = tt; older = omega arith; engages = λ q. refl }) (omega arith) (omega arith)
   hears-cancel l here place.Exiting1 c h = same refl refl
   hears-cancel l here place.Exiting2 c h = same refl refl
 
@@ -125,3 +121,11 @@ pub hears-down :
 hears-down p i r l u h =
     on-cond (Heard p i (u .letter) l (u .place) (u .clock)) (downLost r) (λ e. same refl refl)
     (λ e. hears p i (u .letter) (willing r i) l (u .place) (u .clock) h)
+
+pub ready-idle : (s : Slot) (pl : Place) (c : ℕ) → Ready s pl c → Idle pl
+ready-idle s place.FallBack c h l = l
+ready-idle s place.Requesting c h l = l
+ready-idle s place.Entering c h l = h
+ready-idle s place.Running c h l = h
+ready-idle s place.Exiting1 c h l = h
+ready-idle s place.Exiting2 c h l = h
