@@ -27,14 +27,14 @@ use Rattle.rules.specs.Theorems.{Accepts}
 use Rattle.rules.specs.Promises.{yardAfter, placeAt, Rested, Undisturbed, wayToBlade, BladeStarts}
 use Rattle.rules.proofs.Plans.Accepted.{accepted-exactly}
 use Rattle.rules.proofs.States.Formed.{Formed}
-use Rattle.rules.proofs.Promises.Safe.Always.{always-safe}
+use Rattle.rules.proofs.Promises.Safe.Always.{always-formed}
 
 module _ (p : Plan) (a : Accepts p) (roll : List ℕ) (t : ℕ) (rested : Rested p (step1 p (yardAfter p roll t))) (asks : recordAt roll t .command ≡ request) (calm : (u : ℕ) → t ≤ u → u ≤ t + wayToBlade p → Undisturbed p (yardAfter p roll u) (recordAt roll u)) where
   abbrev yard : ℕ → Yard
   yard u = yardAfter p roll u
 
   formed : (u : ℕ) → Formed p (yard u)
-  formed u = always-safe p a roll u .formed
+  formed u = always-formed p a roll u
 
   -- After i ticks the lease has come to device i.
   asking-at : (i : ℕ) → suc i < p .N → States.Asking p (yard (t + suc i)) (suc i)

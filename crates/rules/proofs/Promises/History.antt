@@ -16,7 +16,7 @@ use Rattle.rules.proofs.Promises.Stays.Stay.{Active, engaged-active, so
 use Rattle.rules.proofs.Promises.Stays.Ticked.{StepOf, tick-steps}
 use Rattle.rules.proofs.Promises.Stays.Steps.{on-active, was-active, stays-engaged}
 use Rattle.rules.proofs.Promises.Safe.Clauses.{spentAt}
-use Rattle.rules.proofs.Promises.Safe.Always.{fresh-idle, always-safe}
+use Rattle.rules.proofs.Promises.Safe.Always.{fresh-idle, always-formed}
 
 module _ (p : Plan) (a : Accepts p) (roll : List ℕ) (i : ℕ) (low : 1 ≤ i) (used : i ≤ p .N) where
   abbrev activeAfter : ℕ → Type 0
@@ -29,10 +29,10 @@ module _ (p : Plan) (a : Accepts p) (roll : List ℕ) (i : ℕ) (low : 1 ≤ i) 
   Engaged t = engagedAt p roll i t ≡ true
 
   steps : (t : ℕ) → StepOf p (yardAfter p roll t) (recordAt roll t) i
-  steps t = tick-steps p (yardAfter p roll t) (recordAt roll t) i a (always-safe p a roll t .formed) low used
+  steps t = tick-steps p (yardAfter p roll t) (recordAt roll t) i a (always-formed p a roll t) low used
 
   placed : (t : ℕ) → Placed p i (placeAt p roll i t) (device (yardAfter p roll t) i .clock)
-  placed t = always-safe p a roll t .formed .placed i low (omega (arith, a .devices)) used
+  placed t = always-formed p a roll t .placed i low (omega (arith, a .devices)) used
 
   past : (t : ℕ) → Engaged t → slot p i .E ≤ spentAfter t
   past t is = engaged-past p i (placeAt p roll i t) (device (yardAfter p roll t) i .clock) is .1

@@ -16,7 +16,7 @@ use Rattle.rules.proofs.Plans.Accepted.{accepted-exactly}
 use Rattle.rules.proofs.States.Formed.{Based}
 use Rattle.rules.proofs.Promises.Stays.Stay.{Idle}
 use Rattle.rules.proofs.Promises.Bases.Ticked.{tick-runs}
-use Rattle.rules.proofs.Promises.Safe.Always.{always-safe}
+use Rattle.rules.proofs.Promises.Safe.Always.{always-formed, always-prompt, always-led}
 
 -- Away from Fall-Back the base's place has a device, and the lease clock is below LS.
 away : (p : Plan) (b : Base) (c l : ℕ) → Based p b c l → (b ≡ base.FallBack → ⊥) → (1 ≤ baseIndex b) × (l < LS p)
@@ -31,7 +31,7 @@ module _ (p : Plan) (a : Accepts p) (roll : List ℕ) where
 
   away-at : (t : ℕ) → Away t → (1 ≤ baseIndex (yardAfter p roll t .base)) × (yardAfter p roll t .lease < LS p)
   away-at t off =
-      let y = yardAfter p roll t in away p (y .base) (y .clock) (y .lease) (always-safe p a roll t .formed .based) off
+      let y = yardAfter p roll t in away p (y .base) (y .clock) (y .lease) (always-formed p a roll t .based) off
 
   -- While the base is away its lease clock counts the ticks.
   counts : (t k : ℕ) → ((j : ℕ) → j ≤ k → Away (t + j)) → k ≤ yardAfter p roll (t + k) .lease
@@ -41,9 +41,8 @@ module _ (p : Plan) (a : Accepts p) (roll : List ℕ) where
       let before : k ≤ yardAfter p roll (t + k) .lease = counts t k (λ j h. off j (omega arith)) in
       let was = away-at (t + k) (off k (omega arith)) in
       let is = away-at (suc (t + k)) (rw (add-suc t k) at (off (suc k) (omega arith))) in
-      let safe = always-safe p a roll (t + k) in
       rw (add-suc t k)
-      (omega (arith, tick-runs p (yardAfter p roll (t + k)) (recordAt roll (t + k)) a (safe .formed) (safe .prompt) (was .0) (is .0)))
+      (omega (arith, tick-runs p (yardAfter p roll (t + k)) (recordAt roll (t + k)) a (always-formed p a roll (t + k)) (always-prompt p a roll (t + k)) (was .0) (is .0)))
 
 pub leases-end : LeasesEnd
 leases-end p roll t e off =
@@ -55,5 +54,5 @@ rest-is-safe p roll t i e low high rest =
     let a : Accepts p = accepted-exactly p .0 e in
     let none : baseIndex (yardAfter p roll t .base) ≡ 0 = rw rest in
     let idle : Idle (placeAt p roll i t) =
-    λ active. omega (arith, always-safe p a roll t .reached i low high active) in
+    λ active. omega (arith, always-led p a roll t .0 i low high active) in
     (λ q. idle (rw q tt), λ q. idle (rw q tt), λ q. idle (rw q tt), λ q. idle (rw q tt))

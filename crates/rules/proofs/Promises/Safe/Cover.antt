@@ -9,10 +9,12 @@ use Rattle.rules.specs.Plan.{stay, LS}
 use Rattle.rules.specs.Tick.{tick}
 use Rattle.rules.specs.Tick.Step3.{baseIndex}
 use Rattle.rules.specs.Theorems.{Accepts}
+use Rattle.rules.proofs.States.Formed.{Formed}
 use Rattle.rules.proofs.Promises.Stays.Ticked.{tick-steps}
 use Rattle.rules.proofs.Promises.Stays.Steps.{on-active}
+use Rattle.rules.proofs.Promises.Bases.Turns.{Prompt}
 use Rattle.rules.proofs.Promises.Bases.Ticked.{tick-asks, tick-runs}
-use Rattle.rules.proofs.Promises.Safe.Clauses.{Reached, Covered, Safe}
+use Rattle.rules.proofs.Promises.Safe.Clauses.{Reached, Covered}
 
 module _ (p : Plan) (a : Accepts p) where
   -- A stay that starts within (j-1) × W ticks of the lease ends within it, by c4.
@@ -21,12 +23,14 @@ module _ (p : Plan) (a : Accepts p) where
       let one : j ≡ j - 1 + 1 = omega arith in omega (arith, a .c4 j low used, ap (λ (k : ℕ). k * p .W) one)
 
   -- Later the lease clock and what is spent of the stay go on together.
-  pub covered-kept : (y : Yard) (r : Record) → Safe p y → Reached p (tick p y r) → Covered p (tick p y r)
-  covered-kept y r s reached j low used active =
-      on-active (tick-steps p y r j a (s .formed) low used) active
-      (λ ask new young. omega (arith, fits j low used, tick-asks p y r a (s .formed) (s .prompt) j low ask .early))
+  pub covered-kept :
+      (y : Yard) (r : Record) → Formed p y → Prompt p (y .base) (y .clock) (y .lease) → Reached p y → Covered p y
+      → Reached p (tick p y r) → Covered p (tick p y r)
+  covered-kept y r f soon reached covered still j low used active =
+      on-active (tick-steps p y r j a f low used) active
+      (λ ask new young. omega (arith, fits j low used, tick-asks p y r a f soon j low ask .early))
       (λ h more.
-      let here : j ≤ baseIndex (y .base) = s .reached j low used (h .was) in
-      let there : j ≤ baseIndex (tick p y r .base) = reached j low used active in
-      let runs : tick p y r .lease ≡ y .lease + 1 = tick-runs p y r a (s .formed) (s .prompt) (omega arith) (omega arith) in
-      omega (arith, s .covered j low used (h .was)))
+      let here : j ≤ baseIndex (y .base) = reached j low used (h .was) in
+      let there : j ≤ baseIndex (tick p y r .base) = still j low used active in
+      let runs : tick p y r .lease ≡ y .lease + 1 = tick-runs p y r a f soon (omega arith) (omega arith) in
+      omega (arith, covered j low used (h .was)))

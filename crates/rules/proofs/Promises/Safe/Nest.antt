@@ -10,6 +10,7 @@ use Rattle.rules.specs.Yard.{device}
 use Rattle.rules.specs.Tick.{tick}
 use Rattle.rules.specs.Tick.Step3.{baseIndex}
 use Rattle.rules.specs.Theorems.{Accepts}
+use Rattle.rules.proofs.States.Formed.{Formed}
 use Rattle.rules.proofs.Ticks.Views.{turn}
 use Rattle.rules.proofs.Ticks.Keeps.{keeps}
 use Rattle.rules.proofs.Promises.Stays.Stay.{some-left}
@@ -18,10 +19,11 @@ use Rattle.rules.proofs.Promises.Stays.Hears.{calledOff}
 use Rattle.rules.proofs.Promises.Stays.Ticked.{StepOf, tick-steps}
 use Rattle.rules.proofs.Promises.Stays.Steps.{on-active}
 use Rattle.rules.proofs.Promises.Bases.Letters.{Entered}
+use Rattle.rules.proofs.Promises.Bases.Turns.{Prompt}
 use Rattle.rules.proofs.Promises.Bases.Ticked.{tick-asks, tick-calls}
-use Rattle.rules.proofs.Promises.Safe.Clauses.{ActiveAt, spentAt, ageAt, Reached, Nest, Nested, Safe}
+use Rattle.rules.proofs.Promises.Safe.Clauses.{ActiveAt, spentAt, ageAt, Reached, Nest, Nested}
 
-module _ (p : Plan) (a : Accepts p) (y : Yard) (r : Record) (s : Safe p y) (reached : Reached p (tick p y r)) where
+module _ (p : Plan) (a : Accepts p) (y : Yard) (r : Record) (f : Formed p y) (soon : Prompt p (y .base) (y .clock) (y .lease)) (nested : Nested p y) (reached : Reached p (tick p y r)) where
   abbrev end : Yard
   end = tick p y r
 
@@ -42,15 +44,15 @@ module _ (p : Plan) (a : Accepts p) (y : Yard) (r : Record) (s : Safe p y) (reac
     goes-on-nested :
         Stays (slot p (i + 1)) 1 (device y (i + 1)) (device end (i + 1)) → spentAt p y (i + 1) + 1 ≤ spentAt p end (i + 1)
         → Nest p end i
-    goes-on-nested h more = by (tick-steps p y r i a (s .formed) low (omega arith))
+    goes-on-nested h more = by (tick-steps p y r i a f low (omega arith))
       where
         n : Nest p y i
-        n = s .nested i low few (h .was)
+        n = nested i low few (h .was)
 
         left : spentAt p end (i + 1) < stay p (i + 1)
         left =
             some-left p (i + 1) (device end (i + 1) .place) (device end (i + 1) .clock)
-            (keeps p a y r (s .formed) .placed (i + 1) (omega arith) (omega (arith, a .devices)) (omega arith)) active
+            (keeps p a y r f .placed (i + 1) (omega arith) (omega (arith, a .devices)) (omega arith)) active
 
         by : StepOf p y r i → Nest p end i
         by (Step.rests idle still) = absurd (idle (n .active))
@@ -64,14 +66,14 @@ module _ (p : Plan) (a : Accepts p) (y : Yard) (r : Record) (s : Safe p y) (reac
         by (Step.halted o k before all) =
             let off : calledOff (turn p y r .down) ≡ i = o few in
             let here : calledOff (turn p y r .down) ≡ baseIndex (end .base) =
-            tick-calls p y r a (s .formed) (s .prompt) (omega arith) in
+            tick-calls p y r a f soon (omega arith) in
             absurd (omega (arith, reached (i + 1) (omega arith) (omega arith) active))
         by (Step.ends was one pl c) = absurd (omega (arith, n .outlasts, left))
 
   pub nested-kept : Nested p (tick p y r)
   nested-kept i low few active =
-      on-active (tick-steps p y r (i + 1) a (s .formed) (omega arith) (omega arith)) active
+      on-active (tick-steps p y r (i + 1) a f (omega arith) (omega arith)) active
       (λ ask new young.
-      let came = tick-asks p y r a (s .formed) (s .prompt) (i + 1) (omega arith) ask .after i low refl in
+      let came = tick-asks p y r a f soon (i + 1) (omega arith) ask .after i low refl in
       starts-nested i low few active came new young)
       (λ h more. goes-on-nested i low few active h more)
