@@ -37,7 +37,7 @@ module _ (p : Plan) (a : Accepts p) (roll : List ℕ) (i : ℕ) (low : 1 ≤ i) 
   past : (t : ℕ) → Engaged t → slot p i .E ≤ spentAfter t
   past t is = engaged-past p i (placeAt p roll i t) (device (yardAfter p roll t) i .clock) is .1
 
-  -- Once engaged, after k ticks more of it it has spent k ticks more.
+  -- A device that is engaged for k ticks more has spent k ticks more.
   spends : (t k : ℕ) → ((j : ℕ) → j ≤ k → Engaged (t + j)) → slot p i .E + k ≤ spentAfter (t + k)
   unfolding after
   spends t zero all = omega (arith, past (t + 0) (all 0 (omega arith)))

@@ -51,17 +51,17 @@ module _ (s : Slot) (w : Bool) (i : ℕ) (d : Device) where
   kept-down (down.Abort k) true h = absurd (true≢false (h (λ q. subst Sent q tt)))
 
 module _ (p : Plan) (a : Accepts p) (y : Yard) (r : Record) (u : Undisturbed p y r) (i : ℕ) (low : 1 ≤ i) (used : i ≤ p .N) where
-  within : i ≤ 8
-  within = omega (arith, a .devices)
+  in-slots : i ≤ 8
+  in-slots = omega (arith, a .devices)
 
   pub all-heard : heard r (risen p y r) i ≡ up p y r i .letter
   all-heard =
       kept-up (device (risen p y r) i .letter) (upLost r i) (u .upKept i low used)
-      ∙ ap (λ (d : Device). d .letter) (risen-used p y r i low within used)
+      ∙ ap (λ (d : Device). d .letter) (risen-used p y r i low in-slots used)
 
   pub all-arrives :
       device (tick p y r) i ≡ arrived (slot p i) (willing r i) (turn p y r .down) i (at (up p y r i .place) (up p y r i .clock) letter.None)
   all-arrives =
-      tick-used p y r i low within used
+      tick-used p y r i low in-slots used
       ∙ kept-down (slot p i) (willing r i) i _ (turn p y r .down) (downLost r)
       (λ some. u .downKept (λ none. some (sym (tick-down p y r) ∙ none)))

@@ -38,7 +38,7 @@ module _ (p : Plan) (a : Accepts p) where
         unused = λ i low high over. fresh-device i low high;
       }
 
-  -- Clause by clause, so that a promise rests on no condition that it does not need: here on c1 alone,
+  -- Clause by clause, so that a promise rests on no condition that it does not need. These two rest on c1 alone.
   module _ (roll : List ℕ) where
     abbrev yard : ℕ → Yard
     yard t = yardAfter p roll t
@@ -53,7 +53,7 @@ module _ (p : Plan) (a : Accepts p) where
     always-prompt zero = tt
     always-prompt (suc t) = tick-prompt p (yard t) (recordAt roll t) a (always-formed t) (always-prompt t)
 
-    -- here on c4,
+    -- These rest on c4.
     pub always-led : (t : ℕ) → Reached p (yard t) × Covered p (yard t)
     unfolding after
     always-led zero = (
@@ -67,7 +67,7 @@ module _ (p : Plan) (a : Accepts p) where
         let reached = reached-kept p a (yard t) (recordAt roll t) f soon (led .0) (led .1) in
         (reached, covered-kept p a (yard t) (recordAt roll t) f soon (led .0) (led .1) reached)
 
-    -- and here on c6.
+    -- This rests on c6.
     always-nested : (t : ℕ) → Nested p (yard t)
     unfolding after
     always-nested zero = λ i low few active. absurd (fresh-idle (i + 1) (omega arith) (omega arith) active)

@@ -60,19 +60,19 @@ module _ (p : Plan) (y : Yard) (r : Record) (i : ℕ) where
       Hears (slot p i) (asked (turn p y r .down) ≡ i) (calledOff (turn p y r .down) ≡ i) (up p y r i) (device (tick p y r) i)
 
   module _ (a : Accepts p) (f : Formed p y) (low : 1 ≤ i) (used : i ≤ p .N) where
-    within : i ≤ 8
-    within = omega (arith, a .devices)
+    in-slots : i ≤ 8
+    in-slots = omega (arith, a .devices)
 
     tick-hears : HearsOf
     tick-hears =
-        rw (tick-used p y r i low within used)
-        (hears-down p i r (turn p y r .down) (up p y r i) (up-placed p a i low used r (device y i) (f .placed i low within used)))
+        rw (tick-used p y r i low in-slots used)
+        (hears-down p i r (turn p y r .down) (up p y r i) (up-placed p a i low used r (device y i) (f .placed i low in-slots used)))
 
     pub tick-steps : StepOf
     tick-steps =
         joined (slot p i) (a .deviceTimes i low used .0 .low) (i ≡ p .N) _ (calledOff (turn p y r .down) ≡ i) _
         (λ last few. absurd (omega arith)) (λ off few. off) (device y i) (up p y r i) (device (tick p y r) i)
-        (steps-up p i r (device y i) (f .placed i low within used)) tick-hears
+        (steps-up p i r (device y i) (f .placed i low in-slots used)) tick-hears
 
     -- A device that is idle when the letters go up, and is not asked, ends the tick idle.
     pub tick-idle : (asked (turn p y r .down) ≡ i → ⊥) → Idle (up p y r i .place) → Idle (device (tick p y r) i .place)
