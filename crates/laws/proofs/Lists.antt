@@ -3,11 +3,12 @@ use Prim.Native.Nat.{ℕ, zero, suc, _+_, _-_, _≤_, _<_}
 use native.Mathlib.Omega.{arith}
 use mathlib.Core.Path.{_≡_, refl, sym, _∙_, ap}
 use mathlib.Core.List.{List, [], _∷_, _++_}
-use lib.Dec.{eqb}
-use borrow.Author.Tests.{eqb-true, eqb-false}
-use lib.ListN.{length, getD, length-append, List·getD-append}
-use lib.Seq.{getD-at}
-use Rattle.laws.specs.Lists.{tabulate}
+use mathlib.Core.Bool.{Bool, true, false, cond}
+use lib.Dec.{leb, eqb}
+use borrow.Author.Tests.{eqb-true, eqb-false, lt-leb, le-leb}
+use lib.ListN.{length, getD, set, length-set, length-append, List·getD-append}
+use lib.Seq.{getD-at, ext-getD, getD-set-same, getD-set-other}
+use Rattle.laws.specs.Lists.{tabulate, swept}
 use Rattle.laws.proofs.Tests.{case, tests}
 
 module _ {A : Type 0} (f : ℕ → A) where
@@ -27,3 +28,61 @@ module _ {A : Type 0} (f : ℕ → A) where
       (λ e.
       List·getD-append (tabulate f n) (f (suc n) ∷ []) d (i - 1) (omega (tests, tabulate-length n))
       ∙ tabulate-at n i d low (omega tests))
+
+-- It depends on f's values at 1 to n alone.
+pub tabulate-same :
+    {A : Type 0} (f g : ℕ → A) (n : ℕ) → ((i : ℕ) → 1 ≤ i → i ≤ n → f i ≡ g i) → tabulate f n ≡ tabulate g n
+unfolding tabulate
+tabulate-same f g zero h = refl
+tabulate-same f g (suc n) h =
+    rw (tabulate-same f g n (λ i low high. h i low (omega arith)), h (suc n) (omega arith) (omega arith))
+
+-- A list is given by what stands in it.
+pub tabulate-back : {A : Type 0} (l : List A) (d : A) (n : ℕ) → length l ≡ n → tabulate (λ i. getD l (i - 1) d) n ≡ l
+tabulate-back l d n e =
+    ext-getD d _ l (tabulate-length _ n ∙ sym e)
+    (λ k h.
+    let k-in : k < n = omega (arith, tabulate-length (λ i. getD l (i - 1) d) n) in
+    ap (λ (j : ℕ). getD (tabulate (λ i. getD l (i - 1) d) n) j d) {x = k} {y = k + 1 - 1} (omega arith)
+    ∙ tabulate-at (λ i. getD l (i - 1) d) n (k + 1) d (omega arith) (omega arith)
+    ∙ ap (λ (j : ℕ). getD l j d) {x = k + 1 - 1} {y = k} (omega arith))
+
+-- Going through a list from the front, one more each time.
+module _ {A : Type 0} (f g : ℕ → A) (m : ℕ) where
+  pub swept-length : (n : ℕ) → length (swept f g n m) ≡ m
+  swept-length n = tabulate-length _ m
+
+  pub swept-none : swept f g 0 m ≡ tabulate g m
+  swept-none = tabulate-same _ g m (λ i low high. rw (lt-leb i 0 low))
+
+  swept-at : (n k : ℕ) (d : A) → k < m → getD (swept f g n m) k d ≡ cond (leb (k + 1) n) (f (k + 1)) (g (k + 1))
+  swept-at n k d in-m =
+      ap (λ (j : ℕ). getD (swept f g n m) j d) {x = k} {y = k + 1 - 1} (omega arith)
+      ∙ tabulate-at _ m (k + 1) d (omega arith) (omega arith)
+
+  pub swept-rest : (n k : ℕ) (d : A) → n ≤ k → k < m → getD (swept f g n m) k d ≡ g (k + 1)
+  swept-rest n k d h in-m = swept-at n k d in-m ∙ rw (lt-leb (k + 1) n (omega arith))
+
+  pub swept-next : (n : ℕ) (x d : A) → n < m → x ≡ f (n + 1) → set (swept f g n m) n x ≡ swept f g (n + 1) m
+  swept-next n x d h e =
+      ext-getD d _ _ (length-set (swept f g n m) n x ∙ swept-length n ∙ sym (swept-length (n + 1)))
+      (λ j in-set.
+      let in-m : j < m = omega (arith, length-set (swept f g n m) n x, swept-length n) in
+      case (eqb j n)
+      (λ q.
+      let same : j ≡ n = eqb-true j n q in
+      rw same
+      (getD-set-same (swept f g n m) n x d (omega (arith, swept-length n))
+      ∙ e
+      ∙ sym (swept-at (n + 1) n d h ∙ rw (le-leb (n + 1) (n + 1) (omega arith)))))
+      (λ q.
+      getD-set-other (swept f g n m) n j x d (eqb-false j n q)
+      ∙ swept-at n j d in-m
+      ∙ ap (λ (b : Bool). cond b (f (j + 1)) (g (j + 1))) (same-side j q)
+      ∙ sym (swept-at (n + 1) j d in-m)))
+    where
+      same-side : (j : ℕ) → eqb j n ≡ false → leb (j + 1) n ≡ leb (j + 1) (n + 1)
+      same-side j q =
+          case (leb (j + 1) n)
+          (λ l. l ∙ sym (le-leb (j + 1) (n + 1) (omega tests)))
+          (λ l. l ∙ sym (lt-leb (j + 1) (n + 1) (omega tests)))

@@ -1,5 +1,6 @@
 -- Laws of tests: a test decides, tests joined, a test tried at one index after another.
-use Prim.Native.Nat.{ℕ, zero, suc, _≤_, _<_, zero-le, suc-le-suc}
+use Prim.Native.Nat.{ℕ, zero, suc, _+_, _≤_, _<_, zero-le, suc-le-suc}
+use native.Mathlib.Numerals.{add-one}
 use native.Mathlib.Omega.{arith}
 use native.Mathlib.Nat.{le-of-suc-le-suc}
 use mathlib.Core.Path.{_≡_, refl, sym, _∙_, ap}
@@ -77,6 +78,29 @@ unfolding allOf
 all-of [] h = refl
 all-of (b ∷ bs) h = and-of (h .0) (all-of bs (h .1))
 
+-- A list of tests joined as code joins them, from the left.
+abbrev pub andAll : Bool → List Bool → Bool
+andAll a [] = a
+andAll a (b ∷ bs) = andAll (a && b) bs
+
+abbrev pub orAll : Bool → List Bool → Bool
+orAll a [] = a
+orAll a (b ∷ bs) = orAll (a || b) bs
+
+pub all-is : (a : Bool) (bs : List Bool) → allOf (a ∷ bs) ≡ andAll a bs
+unfolding allOf
+all-is true [] = refl
+all-is false [] = refl
+all-is true (b ∷ bs) = all-is b bs
+all-is false (b ∷ bs) = all-is false bs
+
+pub any-is : (a : Bool) (bs : List Bool) → anyOf (a ∷ bs) ≡ orAll a bs
+unfolding anyOf
+any-is true [] = refl
+any-is false [] = refl
+any-is true (b ∷ bs) = any-is true bs
+any-is false (b ∷ bs) = any-is b bs
+
 pub none-hold : (bs : List Bool) → anyOf bs ≡ false → NoneHolds bs
 unfolding anyOf
 none-hold [] e = tt
@@ -109,6 +133,13 @@ module _ (test : ℕ → Bool) where
   each-of zero h = refl
   each-of (suc n) h =
       and-of (each-of n (λ i low high. h i low (omega arith))) (h (suc n) (omega arith) (omega arith))
+
+  pub each-next : (n : ℕ) → each test n ≡ true → test (n + 1) ≡ true → each test (n + 1) ≡ true
+  unfolding each
+  each-next n all here = rw add-one (and-of all (rw add-one at here))
+
+  pub each-broken : (n i : ℕ) → 1 ≤ i → i ≤ n → test i ≡ false → each test n ≡ false
+  each-broken n i low high e = fails (λ all. clash (each-holds n all i low high) e)
 
   -- What is found below n is at most n; it holds there if it is below n, and nowhere before.
   pub lowest-most : (n : ℕ) → lowest test n ≤ n

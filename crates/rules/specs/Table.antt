@@ -23,7 +23,7 @@ allTimes ts = allOf (map isTime ts)
 
 -- Each of these is zero.
 abbrev pub allZero : List ℕ → Bool
-allZero ts = allOf (map (eqb 0) ts)
+allZero ts = allOf (map (λ t. eqb t 0) ts)
 
 -- 1: N outside 2..8; index 0.
 unfoldable pub line1 : Plan → ℕ → Bool

@@ -92,9 +92,9 @@ pub enum Down {
     Abort(u8),
 }
 
-// What the supervisor goes by of a plan: N, W, B, and LS = E1 + R1 + X1.
+// What the supervisor goes by of an accepted plan: N, W, B, and LS = E1 + R1 + X1.
 pub struct Terms {
-    pub N: u16,
+    pub N: u8,
     pub W: u16,
     pub B: u16,
     pub LS: u32,

@@ -52,19 +52,19 @@ module _ (p : Plan) where
         let n : ℕ = p .N in
         let l = none-hold _ (u 3 n (omega (arith, size))) in
         let h = all-hold _ (given (eqb n n) _ (l .0) (eq-eqb n n refl)) in
-        (sym (eqb-true _ _ (h .0)), sym (eqb-true _ _ (h .1 .0)))
+        (eqb-true _ _ (h .0), eqb-true _ _ (h .1 .0))
 
     unused : (i : ℕ) → p .N < i → i ≤ 8 → slot p i ≡ emptySlot
     unfolding broken table line3
     unused i low high =
         let l = none-hold _ (u 3 i (omega arith)) in
         let h = all-hold _ (given (isAbove p i) _ (l .1 .0) (is-above p i low high)) in
-        let F : slot p i .F ≡ 0 = sym (eqb-true _ _ (h .0)) in
-        let E : slot p i .E ≡ 0 = sym (eqb-true _ _ (h .1 .0)) in
-        let R : slot p i .R ≡ 0 = sym (eqb-true _ _ (h .1 .1 .0)) in
-        let X : slot p i .X ≡ 0 = sym (eqb-true _ _ (h .1 .1 .1 .0)) in
-        let G : slot p i .G ≡ 0 = sym (eqb-true _ _ (h .1 .1 .1 .1 .0)) in
-        let S : slot p i .S ≡ 0 = sym (eqb-true _ _ (h .1 .1 .1 .1 .1 .0)) in
+        let F : slot p i .F ≡ 0 = eqb-true _ _ (h .0) in
+        let E : slot p i .E ≡ 0 = eqb-true _ _ (h .1 .0) in
+        let R : slot p i .R ≡ 0 = eqb-true _ _ (h .1 .1 .0) in
+        let X : slot p i .X ≡ 0 = eqb-true _ _ (h .1 .1 .1 .0) in
+        let G : slot p i .G ≡ 0 = eqb-true _ _ (h .1 .1 .1 .1 .0) in
+        let S : slot p i .S ≡ 0 = eqb-true _ _ (h .1 .1 .1 .1 .1 .0) in
         λ j. record { F = F j; E = E j; R = R j; X = X j; G = G j; S = S j }
 
     c2 : p .N * p .W < LS p
@@ -142,7 +142,7 @@ module _ (p : Plan) where
           kept (eqb i (p .N)) _
               (λ q.
               rw (eqb-true i (p .N) q)
-              (all-of _ (eq-eqb _ _ (sym (a .lastSpacing .0)), (eq-eqb _ _ (sym (a .lastSpacing .1)), tt)))),
+              (all-of _ (eq-eqb _ _ (a .lastSpacing .0), (eq-eqb _ _ (a .lastSpacing .1), tt)))),
           (
             kept (isAbove p i) _ (λ q. let d = above-is p i q in rw (a .unused i (d .0) (d .1)) (all-of _ (refl, (refl, (refl, (refl, (refl, (refl, tt)))))))),
             tt,

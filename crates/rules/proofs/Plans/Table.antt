@@ -1,21 +1,26 @@
 -- How the table's lines are read: at an index of its own a line that is not broken gives its condition, and its condition
 -- keeps it unbroken. No line is broken beyond the eight slots.
-use Prim.Native.Nat.{ℕ, zero, suc, _+_, _≤_, _<_}
+use Prim.Native.Nat.{ℕ, zero, suc, _+_, _-_, _≤_, _<_}
 use native.Mathlib.Omega.{arith}
 use mathlib.Core.Path.{_≡_, refl, sym, _∙_, ap}
 use mathlib.Core.Bool.{Bool, true, false, not, _&&_}
 use mathlib.Core.List.{[], _∷_}
 use lib.Dec.{leb, ltb, eqb}
-use lib.ListN.{length, List·getD-eq-default}
+use lib.ListN.{length, getD, List·getD-eq-default}
 use borrow.Author.Tests.{ltb-true, leb-true, eqb-true, lt-ltb, le-leb, le-ltb, lt-leb, ne-eqb, not-false}
 use Rattle.laws.specs.Tests.{allOf, anyOf, lowest}
 use Rattle.laws.proofs.Tests.{tests, case, clash, not-of, Hold, NoneHolds, all-hold, all-of, none-hold, none-of, none-at, lowest-most, lowest-none, lowest-holds, lowest-is, lowest-is-none}
 use Rattle.rules.specs.declared.Plan.{Plan}
 use Rattle.rules.specs.declared.Verdict.the-variants.{Accepted, Refused}
-use Rattle.rules.specs.Plan.{isTime, isDevice, isPair, isAbove}
+use Rattle.rules.specs.Plan.{slot, emptySlot, isTime, isDevice, isPair, isAbove}
 use Rattle.rules.specs.Table.{fails, line1, line2, line3, line4, line5, line6, line7, line8, line9, table, broken, lineVerdict}
 use Rattle.rules.specs.Theorems.{Time}
 use Rattle.rules.proofs.Answers.{accepted-if, refused-if}
+
+-- Device i's slot, as the list has it.
+pub slot-at : (p : Plan) (k : ℕ) → getD (p .slots) k emptySlot ≡ slot p (k + 1)
+unfolding slot
+slot-at p k = ap (λ (j : ℕ). getD (p .slots) j emptySlot) {x = k} {y = k + 1 - 1} (omega arith)
 
 -- A condition, asked at an index.
 pub given : (asked holds : Bool) → fails asked holds ≡ false → asked ≡ true → holds ≡ true

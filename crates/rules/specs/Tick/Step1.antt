@@ -3,8 +3,8 @@
 use Prim.Native.Nat.{ℕ, _+_}
 use mathlib.Core.Bool.{Bool, cond}
 use mathlib.Core.List.{List}
-use lib.Dec.{leb, ltb}
-use Rattle.laws.specs.Lists.{tabulate}
+use lib.Dec.{ltb}
+use Rattle.laws.specs.Lists.{swept}
 use Rattle.rules.specs.declared.Plan.{Plan}
 use Rattle.rules.specs.declared.Slot.{Slot}
 use Rattle.rules.specs.declared.Terms.{Terms}
@@ -19,7 +19,7 @@ use Rattle.rules.specs.Yard.{at, device}
 
 -- The eight devices after each of 1 to N has done f; slots above N stay as they are.
 unfoldable pub eachDevice : Plan → (ℕ → Device → Device) → Yard → List Device
-eachDevice p f y = tabulate (λ i. cond (leb i (p .N)) (f i (device y i)) (device y i)) 8
+eachDevice p f y = swept (λ i. f i (device y i)) (device y) (p .N) 8
 
 -- One more, but a clock that has reached its limit stops there.
 abbrev pub stopsAt : ℕ → ℕ → ℕ

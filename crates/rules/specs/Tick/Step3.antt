@@ -1,10 +1,8 @@
 -- Document 01, "One tick", step 3: all letters go up and are then gone; those not lost are heard. The supervisor does the
 -- first that applies.
 use Prim.Native.Nat.{ℕ, _+_, _-_}
-use mathlib.Core.Bool.{Bool, not, cond}
-use mathlib.Core.List.{[], _∷_}
+use mathlib.Core.Bool.{Bool, not, _&&_, cond}
 use lib.Dec.{ltb, eqb}
-use Rattle.laws.specs.Tests.{allOf}
 use Rattle.rules.specs.declared.Plan.{Plan}
 use Rattle.rules.specs.declared.Base.{Base}
 use Rattle.rules.specs.declared.Base.the-variants as base
@@ -58,7 +56,7 @@ leases t i lease = goes (base.Lease (i + 1)) lease (cond (eqb (i + 1) (t .N)) (d
 -- Fall-Back: Request heard, clock at B, approval holds: to Lease 1, both clocks 0, send LeaseReq 1.
 unfoldable pub inFallBack : Terms → Bool → Letter → ℕ → ℕ → BaseMove
 inFallBack t approved last clock lease =
-    cond (allOf (sameLetter last letter.Request ∷ eqb clock (t .B) ∷ approved ∷ []))
+    cond (sameLetter last letter.Request && eqb clock (t .B) && approved)
     (goes (base.Lease 1) 0 (down.LeaseReq 1))
     (stays base.FallBack clock lease)
 
@@ -81,9 +79,19 @@ inLeaseN approved last own i clock lease =
     (cond (sameLetter last letter.Cancel) (cancels i lease)
     (stays (base.Lease i) clock lease)))
 
+-- Lease i.
+unfoldable pub leasing : Terms → Bool → Letter → Letter → ℕ → ℕ → ℕ → BaseMove
+leasing t approved last own i clock lease =
+    cond (ltb i (t .N)) (inLease t approved last own i clock lease) (inLeaseN approved last own i clock lease)
+
 -- Cancel i or Abort i: Exit from i: the same kind at i-1, sent, or Fall-Back when i = 1. Otherwise it stays.
-abbrev pub callsOff : (ℕ → ℕ → BaseMove) → Letter → ℕ → ℕ → BaseMove → BaseMove
-callsOff kind own i lease otherwise = cond (sameLetter own letter.Exit) (below kind i lease) otherwise
+unfoldable pub cancelling : Letter → ℕ → ℕ → ℕ → BaseMove
+cancelling own i clock lease =
+    cond (sameLetter own letter.Exit) (below cancels i lease) (stays (base.Cancel i) clock lease)
+
+unfoldable pub aborting : Letter → ℕ → ℕ → ℕ → BaseMove
+aborting own i clock lease =
+    cond (sameLetter own letter.Exit) (below aborts i lease) (stays (base.Abort i) clock lease)
 
 -- Anywhere else than in Fall-Back: lease clock at LS: to Fall-Back. This comes before approval and before every letter.
 abbrev pub unlessOver : Terms → ℕ → BaseMove → BaseMove
@@ -91,13 +99,9 @@ unlessOver t lease m = cond (eqb lease (t .LS)) fallsBack m
 
 unfoldable pub baseMove : Terms → Bool → Letter → Letter → Base → ℕ → ℕ → BaseMove
 baseMove t approved last own base.FallBack clock lease = inFallBack t approved last clock lease
-baseMove t approved last own (base.Lease i) clock lease =
-    unlessOver t lease
-    (cond (ltb i (t .N)) (inLease t approved last own i clock lease) (inLeaseN approved last own i clock lease))
-baseMove t approved last own (base.Cancel i) clock lease =
-    unlessOver t lease (callsOff cancels own i lease (stays (base.Cancel i) clock lease))
-baseMove t approved last own (base.Abort i) clock lease =
-    unlessOver t lease (callsOff aborts own i lease (stays (base.Abort i) clock lease))
+baseMove t approved last own (base.Lease i) clock lease = unlessOver t lease (leasing t approved last own i clock lease)
+baseMove t approved last own (base.Cancel i) clock lease = unlessOver t lease (cancelling own i clock lease)
+baseMove t approved last own (base.Abort i) clock lease = unlessOver t lease (aborting own i clock lease)
 
 -- The device i of Lease i, Cancel i and Abort i; Fall-Back has none.
 abbrev pub baseIndex : Base → ℕ

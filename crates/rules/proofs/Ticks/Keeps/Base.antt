@@ -2,11 +2,9 @@
 use Prim.Native.Nat.{ℕ, _+_, _-_, _≤_, _<_}
 use native.Mathlib.Omega.{arith}
 use mathlib.Core.Path.{_≡_, refl}
-use mathlib.Core.Bool.{Bool, true, false, not, cond}
-use mathlib.Core.List.{[], _∷_}
+use mathlib.Core.Bool.{Bool, true, false, not, _&&_}
 use lib.Dec.{ltb, eqb}
 use borrow.Author.Tests.{ltb-true, ltb-false, ne-eqb}
-use Rattle.laws.specs.Tests.{allOf}
 use Rattle.laws.proofs.Tests.{tests, on-cond}
 use Rattle.rules.specs.declared.Plan.{Plan}
 use Rattle.rules.specs.declared.Base.{Base}
@@ -19,7 +17,7 @@ use Rattle.rules.specs.declared.BaseMove.{BaseMove}
 use Rattle.rules.specs.Plan.{slot, LS, terms}
 use Rattle.rules.specs.Yard.{sameLetter}
 use Rattle.rules.specs.Tick.Step1.{stopsAt, placeClock, leaseClock}
-use Rattle.rules.specs.Tick.Step3.{goes, fallsBack, stays, cancels, aborts, below, leases, inFallBack, inLease, inLeaseN, unlessOver, baseMove}
+use Rattle.rules.specs.Tick.Step3.{goes, fallsBack, stays, cancels, aborts, below, leases, inFallBack, inLease, inLeaseN, leasing, cancelling, aborting, unlessOver, baseMove}
 use Rattle.rules.specs.Theorems.{Accepts}
 use Rattle.rules.proofs.States.Formed.{Leased, Based}
 use Rattle.rules.proofs.Ticks.Keeps.Devices.{stopped, ForParticipant}
@@ -85,7 +83,7 @@ module _ (p : Plan) (a : Accepts p) where
     fall-back-sound : (c l : ℕ) → Clocked base.FallBack c l → Sound (inFallBack (terms p) approved last c l)
     unfolding inFallBack
     fall-back-sound c l h =
-        on-cond Sound (allOf (sameLetter last letter.Request ∷ eqb c (p .B) ∷ approved ∷ []))
+        on-cond Sound (sameLetter last letter.Request && eqb c (p .B) && approved)
         (λ e. (
           (
             record { low = omega arith; high = omega (arith, a .devices); short = omega (arith, first) },
@@ -126,7 +124,7 @@ module _ (p : Plan) (a : Accepts p) where
     in-time i l h e = record { low = h .low; high = h .high; short = omega (tests, h .long) }
 
     pub move-sound : (b : Base) (c l : ℕ) → Clocked b c l → Sound (baseMove (terms p) approved last own b c l)
-    unfolding baseMove
+    unfolding baseMove leasing cancelling aborting
     move-sound base.FallBack c l h = fall-back-sound c l h
     move-sound (base.Lease i) c l h =
         on-cond Sound (eqb l (LS p)) (λ e. falls-sound)

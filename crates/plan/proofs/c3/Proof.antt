@@ -1,0 +1,30 @@
+use borrow.Author.Needs.{needs}
+use Rattle.plan.proofs.c3.Statement.{statement}
+use Rattle.plan.proofs.c3.Tie as tie
+use Rattle.plan.proofs.c3.Reads as reads
+use Rattle.plan.proofs.c3.Lts as lts
+use Rattle.plan.proofs.product.Reads as product-reads
+use Rattle.plan.proofs.wide.Reads as wide-reads
+
+-- src/lib.rt:85:14
+sub-product : tie.Need-sub-product
+sub-product c = search needs
+
+-- src/lib.rt:85:6
+product-requires : tie.Need-product-requires
+product-requires c κs = search needs
+
+-- src/lib.rt:85:26
+wide-requires : tie.Need-wide-requires
+wide-requires c κs = search needs
+
+-- src/lib.rt:85:38
+wide-requires-2 : tie.Need-wide-requires-2
+wide-requires-2 c κs = search needs
+
+-- src/lib.rt:81:1
+returns : tie.Need-returns
+returns c = cc
+
+pub c3-spec : {M : Type 1} → statement M
+c3-spec = tie.close (tie.spec sub-product product-requires wide-requires wide-requires-2 returns)

@@ -1,0 +1,47 @@
+use borrow.Author.Needs.{needs}
+use Rattle.plan.proofs.c6.Statement.{statement}
+use Rattle.plan.proofs.c6.Tie as tie
+use Rattle.plan.proofs.c6.Reads as reads
+use Rattle.plan.proofs.c6.Lts as lts
+use Rattle.plan.proofs.stay.Reads as stay-reads
+use Rattle.plan.proofs.wide.Reads as wide-reads
+
+-- src/lib.rt:105:5
+wide-requires : tie.Need-wide-requires
+wide-requires c κs = search needs
+
+-- src/lib.rt:105:15
+stay-requires : tie.Need-stay-requires
+stay-requires c κs = search needs
+
+-- src/lib.rt:105:5
+add-result : tie.Need-add-result
+add-result c = search needs
+
+-- src/lib.rt:105:28
+wide-requires-2 : tie.Need-wide-requires-2
+wide-requires-2 c κs = search needs
+
+-- src/lib.rt:105:40
+wide-requires-3 : tie.Need-wide-requires-3
+wide-requires-3 c κs = search needs
+
+-- src/lib.rt:105:28
+add-result-2 : tie.Need-add-result-2
+add-result-2 c = search needs
+
+-- src/lib.rt:102:1
+returns : tie.Need-returns
+returns c = cc
+
+pub c6-spec : {M : Type 1} → statement M
+c6-spec =
+    tie.close
+    (tie.spec
+    wide-requires
+    stay-requires
+    add-result
+    wide-requires-2
+    wide-requires-3
+    add-result-2
+    returns)

@@ -1,0 +1,17 @@
+use Rattle.rules.specs.Plan.{isDevice}
+use mathlib.Core.Path.{sym}
+use mathlib.Core.List.{[], _∷_}
+use Rattle.laws.proofs.Tests.{all-is}
+use borrow.Author.Needs.{needs}
+use Rattle.state.proofs.is_device.Statement.{statement}
+use Rattle.state.proofs.is_device.Tie as tie
+
+wide-requires : tie.Need-wide-requires
+wide-requires c κs = search needs
+
+returns : tie.Need-returns
+unfolding isDevice
+returns c = rw (c .before .wide .ensures) (sym (all-is _ (_ ∷ [])))
+
+pub is-device-spec : {M : Type 1} → statement M
+is-device-spec = tie.close (tie.spec wide-requires returns)
