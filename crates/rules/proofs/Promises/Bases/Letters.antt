@@ -20,7 +20,7 @@ use Rattle.rules.specs.Tick.Step2.{due, dueMove, heedRequest, heedCancel
 use Rattle.rules.specs.Tick.Step3.{heard}
 use Rattle.rules.specs.Theorems.{Accepts}
 use Rattle.rules.proofs.States.Formed.{Lettered, Formed}
-use Rattle.rules.proofs.Ticks.Views.{risen, up, heard-used}
+use Rattle.rules.proofs.Ticks.Views.{risen, up, risen-used}
 use Rattle.rules.proofs.Promises.Stays.Stay.{Active, Idle, spent}
 use Rattle.rules.proofs.Promises.Stays.Moves.{on-heed}
 
@@ -99,6 +99,7 @@ module _ (p : Plan) (a : Accepts p) (y : Yard) (r : Record) (f : Formed p y) (i 
       let high : i ≤ 8 = omega (arith, a .devices) in
       let d : Device = device y i in
       let u : Device = up p y r i in
-      rw (heard-used p y r i low high used)
-      (on-cond (Says (Entered p i (u .place) (u .clock)) (Idle (u .place))) (upLost r i) (λ e. tt)
-      (λ e. letter-true p a r i (d .letter) (d .place) (d .clock) (f .lettered i low high used)))
+      on-cond (Says (Entered p i (u .place) (u .clock)) (Idle (u .place))) (upLost r i) (λ e. tt)
+      (λ e.
+      rw (risen-used p y r i low high used)
+      (letter-true p a r i (d .letter) (d .place) (d .clock) (f .lettered i low high used)))

@@ -3,11 +3,9 @@
 use Prim.Native.Nat.{ℕ, _+_, _-_, _*_, _≤_, _<_}
 use native.Mathlib.Omega.{arith}
 use mathlib.Core.Path.{_≡_, refl, subst}
-use mathlib.Core.Bool.{Bool, true, not}
-use mathlib.Core.List.{[], _∷_}
+use mathlib.Core.Bool.{Bool, true, not, _&&_}
 use lib.Dec.{ltb, eqb}
 use borrow.Author.Tests.{eqb-true, ltb-true, ltb-false}
-use Rattle.laws.specs.Tests.{allOf}
 use Rattle.laws.proofs.Tests.{tests, on-cond}
 use Rattle.rules.specs.declared.Plan.{Plan}
 use Rattle.rules.specs.declared.Base.{Base}
@@ -18,7 +16,7 @@ use Rattle.rules.specs.declared.Down.{Down}
 use Rattle.rules.specs.declared.BaseMove.{BaseMove}
 use Rattle.rules.specs.Plan.{LS, terms}
 use Rattle.rules.specs.Yard.{sameLetter}
-use Rattle.rules.specs.Tick.Step3.{fallsBack, stays, cancels, aborts, below, leases, inFallBack, inLease, inLeaseN, callsOff, baseMove, baseIndex}
+use Rattle.rules.specs.Tick.Step3.{fallsBack, stays, cancels, aborts, below, leases, inFallBack, inLease, inLeaseN, leasing, cancelling, aborting, baseMove, baseIndex}
 use Rattle.rules.specs.Theorems.{Accepts}
 use Rattle.rules.proofs.States.Formed.{same-letter}
 use Rattle.rules.proofs.Ticks.Keeps.Base.{Clocked}
@@ -51,7 +49,21 @@ pub record Turned (p : Plan) (Came Gone : Type 0) (k l : ℕ) (m : BaseMove) : T
   pub calls : 1 ≤ calledOff (m .down) → calledOff (m .down) ≡ baseIndex (m .base)
   pub prompt : Prompt p (m .base) (m .clock) (m .lease)
 
+-- A move that sends Cancel j or Abort j, and goes to the place of that name.
+record Off (p : Plan) (j l : ℕ) (m : BaseMove) : Type 0 where
+  index : baseIndex (m .base) ≡ j
+  asks : asked (m .down) ≡ 0
+  off : calledOff (m .down) ≡ j
+  runs : m .lease ≡ l
+  prompt : Prompt p (m .base) (m .clock) (m .lease)
+
 module _ (p : Plan) (a : Accepts p) (Came Gone : Type 0) where
+  cancels-off : (j l : ℕ) → Off p j l (cancels j l)
+  cancels-off j l = record { index = refl; asks = refl; off = refl; runs = refl; prompt = tt }
+
+  aborts-off : (j l : ℕ) → Off p j l (aborts j l)
+  aborts-off j l = record { index = refl; asks = refl; off = refl; runs = refl; prompt = tt }
+
   -- The lease expires; the base calls off the device of its place; it goes back to the device below, or to Fall-Back.
   module _ (k l : ℕ) where
     abbrev At : BaseMove → Type 0
@@ -60,22 +72,24 @@ module _ (p : Plan) (a : Accepts p) (Came Gone : Type 0) where
     expired : l ≡ LS p → At fallsBack
     expired over = record { kind = expires over refl refl; calls = λ q. absurd (omega arith); prompt = tt }
 
-    cancelled : 1 ≤ k → At (cancels k l)
-    cancelled low = record { kind = holds low refl refl refl; calls = λ q. refl; prompt = tt }
+    called : (m : BaseMove) → Off p k l m → 1 ≤ k → At m
+    called m o low =
+        record {
+          kind = holds low (o .index) (o .asks) (o .runs);
+          calls = λ q. omega (arith, o .off, o .index);
+          prompt = o .prompt;
+        }
 
-    aborted : 1 ≤ k → At (aborts k l)
-    aborted low = record { kind = holds low refl refl refl; calls = λ q. refl; prompt = tt }
+    called-below : (m : BaseMove) → Off p (k - 1) l m → 2 ≤ k → Gone → At m
+    called-below m o high out =
+        record {
+          kind = goesBack out (omega (arith, o .index)) (o .asks) (λ q. o .runs);
+          calls = λ q. omega (arith, o .off, o .index);
+          prompt = o .prompt;
+        }
 
-    cancelled-below : 2 ≤ k → Gone → At (cancels (k - 1) l)
-    cancelled-below high out =
-        record { kind = goesBack out (omega arith) refl (λ q. refl); calls = λ q. refl; prompt = tt }
-
-    aborted-below : 2 ≤ k → Gone → At (aborts (k - 1) l)
-    aborted-below high out =
-        record { kind = goesBack out (omega arith) refl (λ q. refl); calls = λ q. refl; prompt = tt }
-
-    back : (kind : ℕ → ℕ → BaseMove) → (2 ≤ k → Gone → At (kind (k - 1) l)) → 1 ≤ k → Gone → At (below kind k l)
-    back kind step low out =
+    back : (kind : ℕ → ℕ → BaseMove) → ((j l : ℕ) → Off p j l (kind j l)) → 1 ≤ k → Gone → At (below kind k l)
+    back kind o low out =
         on-cond At (eqb k 1)
         (λ e.
         record {
@@ -83,7 +97,7 @@ module _ (p : Plan) (a : Accepts p) (Came Gone : Type 0) where
           calls = λ q. absurd (omega arith);
           prompt = tt;
         })
-        (λ e. step (omega tests) out)
+        (λ e. called-below (kind (k - 1) l) (o (k - 1) l) (omega tests) out)
 
     -- It stays where it is.
     held : (b : Base) (c : ℕ) → 1 ≤ k → baseIndex b ≡ k → Prompt p b c l → At (stays b c l)
@@ -108,7 +122,7 @@ module _ (p : Plan) (a : Accepts p) (Came Gone : Type 0) where
     in-fall-back : (c l : ℕ) → At 0 l (inFallBack (terms p) approved last c l)
     unfolding inFallBack
     in-fall-back c l =
-        on-cond (At 0 l) (allOf (sameLetter last letter.Request ∷ eqb c (p .B) ∷ approved ∷ []))
+        on-cond (At 0 l) (sameLetter last letter.Request && eqb c (p .B) && approved)
         (λ e. record { kind = opens refl refl refl refl; calls = λ q. absurd (omega arith); prompt = λ few. omega arith })
         (λ e. record { kind = rests refl refl refl; calls = λ q. absurd (omega arith); prompt = tt })
 
@@ -127,33 +141,27 @@ module _ (p : Plan) (a : Accepts p) (Came Gone : Type 0) where
           → At i l (inLease (terms p) approved last own i c l)
       unfolding inLease
       in-lease i c l low few wait soon =
-          on-cond (At i l) (not approved) (λ e. aborted i l low)
-          (λ e. on-cond (At i l) (sameLetter last letter.Cancel) (λ e. cancelled i l low)
+          on-cond (At i l) (not approved) (λ e. called i l _ (aborts-off i l) low)
+          (λ e. on-cond (At i l) (sameLetter last letter.Cancel) (λ e. called i l _ (cancels-off i l) low)
           (λ e. on-cond (At i l) (sameLetter own letter.Approve) (λ e. onward i l c low wait (soon few) (told-approve e))
-          (λ e. on-cond (At i l) (sameLetter own letter.Deny)
-          (λ e. back i l cancels (cancelled-below i l) low (told-deny e))
-          (λ e. on-cond (At i l) (eqb c (p .W)) (λ e. cancelled i l low)
+          (λ e. on-cond (At i l) (sameLetter own letter.Deny) (λ e. back i l cancels cancels-off low (told-deny e))
+          (λ e. on-cond (At i l) (eqb c (p .W)) (λ e. called i l _ (cancels-off i l) low)
           (λ e. held i l (base.Lease i) c low refl soon)))))
 
       in-lease-last : (i c l : ℕ) → 2 ≤ i → p .N ≤ i → At i l (inLeaseN approved last own i c l)
       unfolding inLeaseN
       in-lease-last i c l low top =
-          on-cond (At i l) (sameLetter own letter.Exit) (λ e. cancelled-below i l low (told-exit e))
-          (λ e. on-cond (At i l) (not approved) (λ e. aborted i l (omega arith))
-          (λ e. on-cond (At i l) (sameLetter last letter.Cancel) (λ e. cancelled i l (omega arith))
+          on-cond (At i l) (sameLetter own letter.Exit)
+          (λ e. called-below i l _ (cancels-off (i - 1) l) low (told-exit e))
+          (λ e. on-cond (At i l) (not approved) (λ e. called i l _ (aborts-off i l) (omega arith))
+          (λ e. on-cond (At i l) (sameLetter last letter.Cancel) (λ e. called i l _ (cancels-off i l) (omega arith))
           (λ e. held i l (base.Lease i) c (omega arith) refl (λ few. absurd (omega arith)))))
-
-      called-off :
-          (kind : ℕ → ℕ → BaseMove) (i l : ℕ) (otherwise : BaseMove) → 1 ≤ i → (2 ≤ i → Gone → At i l (kind (i - 1) l))
-          → At i l otherwise → At i l (callsOff kind own i l otherwise)
-      called-off kind i l otherwise low step still =
-          on-cond (At i l) (sameLetter own letter.Exit) (λ e. back i l kind step low (told-exit e)) (λ e. still)
 
     pub turned :
         (b : Base) (c l : ℕ) → Clocked p a b c l → Prompt p b c l
         → (1 ≤ baseIndex b → baseIndex b ≤ p .N → Says Came Gone own)
         → At (baseIndex b) l (baseMove (terms p) approved last own b c l)
-    unfolding baseMove
+    unfolding baseMove leasing cancelling aborting
     turned base.FallBack c l h soon told = in-fall-back c l
     turned (base.Lease i) c l h soon told =
         let true : Says Came Gone own = told (h .0 .low) (h .0 .high) in
@@ -165,10 +173,12 @@ module _ (p : Plan) (a : Accepts p) (Came Gone : Type 0) where
     turned (base.Cancel i) c l h soon told =
         on-cond (At i l) (eqb l (LS p)) (λ e. expired i l (eqb-true _ _ e))
         (λ e.
-        called-off (told (h .0 .low) (h .0 .high)) cancels i l _ (h .0 .low) (cancelled-below i l)
-        (held i l (base.Cancel i) c (h .0 .low) refl tt))
+        on-cond (At i l) (sameLetter own letter.Exit)
+        (λ e. back i l cancels cancels-off (h .0 .low) (told-exit (told (h .0 .low) (h .0 .high)) e))
+        (λ e. held i l (base.Cancel i) c (h .0 .low) refl tt))
     turned (base.Abort i) c l h soon told =
         on-cond (At i l) (eqb l (LS p)) (λ e. expired i l (eqb-true _ _ e))
         (λ e.
-        called-off (told (h .0 .low) (h .0 .high)) aborts i l _ (h .0 .low) (aborted-below i l)
-        (held i l (base.Abort i) c (h .0 .low) refl tt))
+        on-cond (At i l) (sameLetter own letter.Exit)
+        (λ e. back i l aborts aborts-off (h .0 .low) (told-exit (told (h .0 .low) (h .0 .high)) e))
+        (λ e. held i l (base.Abort i) c (h .0 .low) refl tt))
