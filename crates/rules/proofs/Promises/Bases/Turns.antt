@@ -3,7 +3,7 @@
 use Prim.Native.Nat.{ℕ, _+_, _-_, _*_, _≤_, _<_}
 use native.Mathlib.Omega.{arith}
 use mathlib.Core.Path.{_≡_, refl, subst}
-use mathlib.Core.Bool.{Bool, true, not, _&&_}
+use mathlib.Core.Bool.{Bool, true, not, _&&_, cond}
 use lib.Dec.{ltb, eqb}
 use borrow.Author.Tests.{eqb-true, ltb-true, ltb-false}
 use Rattle.laws.proofs.Tests.{tests, on-cond}
@@ -16,7 +16,7 @@ use Rattle.rules.specs.declared.Down.{Down}
 use Rattle.rules.specs.declared.BaseMove.{BaseMove}
 use Rattle.rules.specs.Plan.{LS, terms}
 use Rattle.rules.specs.Yard.{sameLetter}
-use Rattle.rules.specs.Tick.Step3.{fallsBack, stays, cancels, aborts, below, leases, inFallBack, inLease, inLeaseN, leasing, cancelling, aborting, baseMove, baseIndex}
+use Rattle.rules.specs.Tick.Step3.{stays, cancels, aborts, below, leases, inFallBack, inLease, inLeaseN, leasing, cancelling, aborting, unlessOver, baseMove, baseIndex}
 use Rattle.rules.specs.Theorems.{Accepts}
 use Rattle.rules.proofs.States.Formed.{same-letter}
 use Rattle.rules.proofs.Ticks.Keeps.Base.{Clocked}
@@ -69,8 +69,10 @@ module _ (p : Plan) (a : Accepts p) (Came Gone : Type 0) where
     abbrev At : BaseMove → Type 0
     At m = Turned p Came Gone k l m
 
-    expired : l ≡ LS p → At fallsBack
-    expired over = record { kind = expires over refl refl; calls = λ q. absurd (omega arith); prompt = tt }
+    unless-over : (m : BaseMove) → At m → At (unlessOver (terms p) l m)
+    unless-over m on =
+        on-cond At (eqb l (LS p))
+        (λ e. record { kind = expires (eqb-true _ _ e) refl refl; calls = λ q. absurd (omega arith); prompt = tt }) (λ e. on)
 
     called : (m : BaseMove) → Off p k l m → 1 ≤ k → At m
     called m o low =
@@ -157,6 +159,14 @@ module _ (p : Plan) (a : Accepts p) (Came Gone : Type 0) where
           (λ e. on-cond (At i l) (sameLetter last letter.Cancel) (λ e. called i l _ (cancels-off i l) (omega arith))
           (λ e. held i l (base.Lease i) c (omega arith) refl (λ few. absurd (omega arith)))))
 
+      -- Cancel i or Abort i, whichever kind it is.
+      calling :
+          (kind : ℕ → ℕ → BaseMove) → ((j l : ℕ) → Off p j l (kind j l)) → (b : Base) (c l : ℕ) → 1 ≤ baseIndex b
+          → Prompt p b c l → At (baseIndex b) l (cond (sameLetter own letter.Exit) (below kind (baseIndex b) l) (stays b c l))
+      calling kind o b c l low soon =
+          on-cond (At (baseIndex b) l) (sameLetter own letter.Exit) (λ e. back (baseIndex b) l kind o low (told-exit e))
+          (λ e. held (baseIndex b) l b c low refl soon)
+
     pub turned :
         (b : Base) (c l : ℕ) → Clocked p a b c l → Prompt p b c l
         → (1 ≤ baseIndex b → baseIndex b ≤ p .N → Says Came Gone own)
@@ -165,20 +175,12 @@ module _ (p : Plan) (a : Accepts p) (Came Gone : Type 0) where
     turned base.FallBack c l h soon told = in-fall-back c l
     turned (base.Lease i) c l h soon told =
         let true : Says Came Gone own = told (h .0 .low) (h .0 .high) in
-        on-cond (At i l) (eqb l (LS p)) (λ e. expired i l (eqb-true _ _ e))
-        (λ e.
-        on-cond (At i l) (ltb i (p .N))
+        unless-over i l _
+        (on-cond (At i l) (ltb i (p .N))
         (λ q. in-lease true i c l (h .0 .low) (ltb-true _ _ q) (h .1 (ltb-true _ _ q)) soon)
         (λ q. in-lease-last true i c l (omega (tests, a .devices)) (ltb-false _ _ q)))
     turned (base.Cancel i) c l h soon told =
-        on-cond (At i l) (eqb l (LS p)) (λ e. expired i l (eqb-true _ _ e))
-        (λ e.
-        on-cond (At i l) (sameLetter own letter.Exit)
-        (λ e. back i l cancels cancels-off (h .0 .low) (told-exit (told (h .0 .low) (h .0 .high)) e))
-        (λ e. held i l (base.Cancel i) c (h .0 .low) refl tt))
+        unless-over i l _
+        (calling (told (h .0 .low) (h .0 .high)) cancels cancels-off (base.Cancel i) c l (h .0 .low) tt)
     turned (base.Abort i) c l h soon told =
-        on-cond (At i l) (eqb l (LS p)) (λ e. expired i l (eqb-true _ _ e))
-        (λ e.
-        on-cond (At i l) (sameLetter own letter.Exit)
-        (λ e. back i l aborts aborts-off (h .0 .low) (told-exit (told (h .0 .low) (h .0 .high)) e))
-        (λ e. held i l (base.Abort i) c (h .0 .low) refl tt))
+        unless-over i l _ (calling (told (h .0 .low) (h .0 .high)) aborts aborts-off (base.Abort i) c l (h .0 .low) tt)

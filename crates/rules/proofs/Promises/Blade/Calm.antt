@@ -3,6 +3,7 @@ use Prim.Native.Nat.{ℕ, _≤_}
 use native.Mathlib.Omega.{arith}
 use mathlib.Core.Path.{_≡_, refl, sym, _∙_, ap, subst}
 use mathlib.Core.Bool.{Bool, true, false, cond, true≢false}
+use Rattle.laws.proofs.Tests.{case}
 use Rattle.rules.specs.declared.Plan.{Plan}
 use Rattle.rules.specs.declared.Slot.{Slot}
 use Rattle.rules.specs.declared.Yard.{Yard}
@@ -13,24 +14,22 @@ use Rattle.rules.specs.declared.Letter.the-variants as letter
 use Rattle.rules.specs.declared.Down.{Down}
 use Rattle.rules.specs.declared.Down.the-variants as down
 use Rattle.rules.specs.Plan.{slot}
-use Rattle.rules.specs.Yard.{at, device, letterNumber}
+use Rattle.rules.specs.Yard.{at, device, sameLetter}
 use Rattle.rules.specs.Tick.{tick}
 use Rattle.rules.specs.Tick.Input.{willing, upLost, downLost}
 use Rattle.rules.specs.Tick.Step3.{heard}
 use Rattle.rules.specs.Tick.Step4.{arrived}
 use Rattle.rules.specs.Theorems.{Accepts}
 use Rattle.rules.specs.Promises.{Undisturbed}
+use Rattle.rules.proofs.States.Formed.{same-letter}
 use Rattle.rules.proofs.Ticks.Views.{risen, turn, up, risen-used, tick-used, tick-down}
 
 -- Only what is there can be lost.
 kept-up : (x : Letter) (lost : Bool) → ((x ≡ letter.None → ⊥) → lost ≡ false) → cond lost letter.None x ≡ x
 kept-up x false h = refl
-kept-up letter.None true h = refl
-kept-up letter.Request true h = absurd (true≢false (h (λ q. omega (arith, ap letterNumber q))))
-kept-up letter.Cancel true h = absurd (true≢false (h (λ q. omega (arith, ap letterNumber q))))
-kept-up letter.Approve true h = absurd (true≢false (h (λ q. omega (arith, ap letterNumber q))))
-kept-up letter.Deny true h = absurd (true≢false (h (λ q. omega (arith, ap letterNumber q))))
-kept-up letter.Exit true h = absurd (true≢false (h (λ q. omega (arith, ap letterNumber q))))
+kept-up x true h =
+    case (sameLetter x letter.None) (λ e. sym (same-letter x letter.None e))
+    (λ e. absurd (true≢false (h (λ q. true≢false (rw q at e)))))
 
 abbrev Sent : Down → Type 0
 Sent down.None = ⊥

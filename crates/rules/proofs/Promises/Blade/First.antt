@@ -1,12 +1,11 @@
 -- The request's tick in a rested yard: the lease comes to device 1.
 use Prim.Native.Nat.{ℕ, _≤_}
 use native.Mathlib.Omega.{arith}
-use mathlib.Core.Path.{_≡_, refl, _∙_, ap}
+use mathlib.Core.Path.{_≡_, refl, _∙_}
 use Rattle.rules.specs.declared.Plan.{Plan}
 use Rattle.rules.specs.declared.Yard.{Yard}
 use Rattle.rules.specs.declared.Record.{Record}
 use Rattle.rules.specs.declared.Base.the-variants as base
-use Rattle.rules.specs.declared.BaseMove.{BaseMove}
 use Rattle.rules.specs.declared.Place.the-variants as place
 use Rattle.rules.specs.declared.Letter.the-variants as letter
 use Rattle.rules.specs.declared.Down.the-variants as down
@@ -20,13 +19,12 @@ use Rattle.rules.specs.Tick.Step3.{goes}
 use Rattle.rules.specs.Theorems.{Accepts}
 use Rattle.rules.specs.Promises.{Rested, Undisturbed}
 use Rattle.rules.proofs.States.Formed.{Formed}
-use Rattle.rules.proofs.Ticks.Views.{turn, up, each-used, tick-base, tick-lease}
-use Rattle.rules.proofs.Promises.Stays.Hears.{asked, calledOff}
+use Rattle.rules.proofs.Ticks.Views.{turn, up, each-used}
 use Rattle.rules.proofs.Promises.Blade.Calm.{all-heard}
 use Rattle.rules.proofs.Promises.Blade.Rises.{Stands, Rests, request-rises}
 use Rattle.rules.proofs.Promises.Blade.Base.{opens}
 use Rattle.rules.proofs.Promises.Blade.States.{Asking}
-use Rattle.rules.proofs.Promises.Blade.Ticked.{enters-asked, stands-still, rests-still}
+use Rattle.rules.proofs.Promises.Blade.Ticked.{asking}
 
 module _ (p : Plan) (a : Accepts p) (y : Yard) (r : Record) (f : Formed p y) (u : Undisturbed p y r) (rested : Rested p (step1 p y)) (asks : r .command ≡ request) where
   several : 2 ≤ p .N
@@ -57,21 +55,4 @@ module _ (p : Plan) (a : Accepts p) (y : Yard) (r : Record) (f : Formed p y) (u 
       (all-heard p a y r u (p .N) first (omega arith) ∙ requests .1) (rested .clock)
 
   pub asking-first : Asking p (tick p y r) 1
-  asking-first =
-      let ask : turn p y r .down ≡ down.LeaseReq 1 = ap (λ (m : BaseMove). m .down) opened in
-      let entered = enters-asked p a y r f u 1 (omega arith) several ask (all-rest 1 (omega arith) first) in
-      let waits =
-      stands-still p a y r f u (p .N) first 1 (ap asked ask) (ap calledOff ask) (λ q. omega (arith, several)) (omega arith)
-      place.Requesting 0 (requests .0) in
-      record {
-        base = tick-base p y r ∙ ap (λ (m : BaseMove). m .base) opened;
-        lease = omega (arith, tick-lease p y r ∙ ap (λ (m : BaseMove). m .lease) opened);
-        enters = entered .0;
-        approves = entered .1;
-        rests =
-            λ j low few.
-            rests-still p a y r f u j (omega arith) 1 (ap asked ask) (ap calledOff ask) (λ q. omega arith) few
-            (all-rest j (omega arith) (omega arith));
-        waits = waits .place;
-        waited = omega (arith, waits .clock);
-      }
+  asking-first = asking p a y r f u 0 several opened (λ j low few. all-rest j low (omega arith)) (requests .0)

@@ -7,7 +7,6 @@ use borrow.Author.Tests.{eq-eqb, ne-eqb}
 use Rattle.rules.specs.declared.Plan.{Plan}
 use Rattle.rules.specs.declared.Yard.{Yard}
 use Rattle.rules.specs.declared.Record.{Record}
-use Rattle.rules.specs.declared.Base.the-variants as base
 use Rattle.rules.specs.declared.BaseMove.{BaseMove}
 use Rattle.rules.specs.declared.Place.the-variants as place
 use Rattle.rules.specs.declared.Letter.the-variants as letter
@@ -23,13 +22,12 @@ use Rattle.rules.specs.Theorems.{Accepts}
 use Rattle.rules.specs.Promises.{Undisturbed}
 use Rattle.rules.proofs.States.Formed.{Formed}
 use Rattle.rules.proofs.Ticks.Views.{risen, turn, up, tick-base, tick-lease}
-use Rattle.rules.proofs.Promises.Stays.Hears.{asked, calledOff}
 use Rattle.rules.proofs.Promises.Bases.Ticked.{lease-runs}
 use Rattle.rules.proofs.Promises.Blade.Calm.{all-heard}
 use Rattle.rules.proofs.Promises.Blade.Rises.{Stands, approve-rises, wait-rises}
 use Rattle.rules.proofs.Promises.Blade.Base.{goes-on}
 use Rattle.rules.proofs.Promises.Blade.States.{Asking, Granted, wait-fits, stay-fits, silent}
-use Rattle.rules.proofs.Promises.Blade.Ticked.{enters-asked, enters-granted, stands-still, rests-still}
+use Rattle.rules.proofs.Promises.Blade.Ticked.{enters-granted, asking}
 
 module _ (p : Plan) (a : Accepts p) (y : Yard) (r : Record) (f : Formed p y) (u : Undisturbed p y r) (i : ℕ) (low : 1 ≤ i) (few : i < p .N) (s : Asking p y i) where
   abbrev next : Yard
@@ -63,39 +61,17 @@ module _ (p : Plan) (a : Accepts p) (y : Yard) (r : Record) (f : Formed p y) (u 
       (λ over. omega (arith, lease-clock, stay-fits p a, a .deviceTimes (p .N) first (omega arith) .1 .low))
       (all-heard p a y r u (p .N) first (omega arith) ∙ waiting .1) approved
 
-  came : next .base ≡ base.Lease (i + 1)
-  came = tick-base p y r ∙ ap (λ (m : BaseMove). m .base) onward
-
-  counted : next .lease ≡ i
-  counted = tick-lease p y r ∙ ap (λ (m : BaseMove). m .lease) onward ∙ lease-clock
-
   pub asking-next : i + 1 < p .N → Asking p next (i + 1)
   asking-next more =
-      let ask : turn p y r .down ≡ down.LeaseReq (i + 1) =
-      ap (λ (m : BaseMove). m .down) onward ∙ rw (ne-eqb (i + 1) (p .N) (λ q. omega arith)) in
-      let entered = enters-asked p a y r f u (i + 1) (omega arith) more ask (s .rests (i + 1) (omega arith) more) in
-      let waits =
-      stands-still p a y r f u (p .N) first (i + 1) (ap asked ask) (ap calledOff ask) (λ q. omega arith) (omega arith)
-      place.Requesting (device y (p .N) .clock + 1) (waiting .0) in
-      record {
-        base = came;
-        lease = omega (arith, counted);
-        enters = entered .0;
-        approves = entered .1;
-        rests =
-            λ j above below.
-            rests-still p a y r f u j (omega arith) (i + 1) (ap asked ask) (ap calledOff ask) (λ q. omega arith) below
-            (s .rests j (omega arith) below);
-        waits = waits .place;
-        waited = omega (arith, waits .clock, s .waited);
-      }
+      asking p a y r f u i more (onward ∙ rw (lease-clock, ne-eqb (i + 1) (p .N) (λ q. omega arith)))
+      (s .rests) (record { place = waiting .0 .place; clock = waiting .0 .clock ∙ s .waited })
 
   pub granted-first : i + 1 ≡ p .N → Granted p next 0
   granted-first last =
       let grant : turn p y r .down ≡ down.Grant (p .N) =
       ap (λ (m : BaseMove). m .down) onward ∙ rw (eq-eqb (i + 1) (p .N) last, last) in
       record {
-        base = came ∙ rw last;
-        lease = omega (arith, counted);
+        base = tick-base p y r ∙ ap (λ (m : BaseMove). m .base) onward ∙ rw last;
+        lease = omega (arith, tick-lease p y r ∙ ap (λ (m : BaseMove). m .lease) onward, lease-clock);
         enters = enters-granted p a y r f u (p .N) first (omega arith) grant (waiting .0 .place);
       }
