@@ -1,13 +1,14 @@
 -- Laws of lists that are given by what stands at each number from 1.
 use Prim.Native.Nat.{ℕ, zero, suc, _+_, _-_, _≤_, _<_}
 use native.Mathlib.Omega.{arith}
+use native.Mathlib.Numerals.{add-one}
 use mathlib.Core.Path.{_≡_, refl, sym, _∙_, ap}
 use mathlib.Core.List.{List, [], _∷_, _++_}
 use mathlib.Core.Bool.{Bool, true, false, cond}
 use lib.Dec.{leb, eqb}
 use borrow.Author.Tests.{eqb-true, eqb-false, lt-leb, le-leb}
-use lib.ListN.{length, getD, set, length-set, length-append, List·getD-append}
-use lib.Seq.{getD-at, ext-getD, getD-set-same, getD-set-other}
+use lib.ListN.{length, getD, set, drop, length-set, length-append, List·getD-append}
+use lib.Seq.{getD-at, set-at, drop-cons, append-snoc, ext-getD, getD-set-same, getD-set-other}
 use Rattle.laws.specs.Lists.{tabulate, swept}
 use Rattle.laws.proofs.Tests.{case, tests}
 
@@ -86,3 +87,11 @@ module _ {A : Type 0} (f g : ℕ → A) (m : ℕ) where
           case (leb (j + 1) n)
           (λ l. l ∙ sym (le-leb (j + 1) (n + 1) (omega tests)))
           (λ l. l ∙ sym (lt-leb (j + 1) (n + 1) (omega tests)))
+
+-- A buffer that is filled from the front: what was written, and the rest as it was. One more is written.
+pub write-next :
+    {A : Type 0} (done buffer : List A) (k : ℕ) (x d : A) → length done ≡ k → k < length buffer
+    → set (done ++ drop k buffer) k x ≡ done ++ (x ∷ []) ++ drop (k + 1) buffer
+write-next done buffer k x d e h =
+    rw (drop-cons buffer k d h, add-one k)
+    (set-at done (getD buffer k d) (drop (suc k) buffer) x k e ∙ sym (append-snoc done x (drop (suc k) buffer)))

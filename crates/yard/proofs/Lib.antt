@@ -1,1 +1,5 @@
 pub mod Sweeps
+pub mod Bytes
+pub mod Tick
+pub mod Ready
+pub mod Loop

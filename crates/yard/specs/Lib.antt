@@ -1,1 +1,3 @@
 pub mod Sweep
+pub mod Ready
+pub mod Sent

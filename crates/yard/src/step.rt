@@ -17,9 +17,12 @@ ghost use mathlib.Core.Path.{_≡_};
 ghost use mathlib.Core.Bool.{cond};
 ghost use Prim.Native.Nat.{ℕ, _+_, _-_, _≤_, _<_};
 ghost use lib.ListN.{getD};
-ghost use Rattle.rules.specs.Plan.{emptySlot};
+ghost use Rattle.rules.specs.Plan.{emptySlot, terms};
 ghost use Rattle.rules.specs.Yard.{freshDevice, engaged};
+ghost use Rattle.rules.specs.Tick.{sent, tick};
+ghost use Rattle.rules.specs.Tick.Step3.{baseIndex};
 ghost use Rattle.rules.specs.Tick.Step4.{arrived};
+ghost use Rattle.yard.specs.Ready.{Ready};
 ghost use Rattle.yard.specs.Sweep.{sweep, risenBy, settledBy, heardFrom, gone, byteOf};
 
 // Steps 1 and 2: each of the n devices moves its clock on and makes its own move.
@@ -149,4 +152,68 @@ pub(crate) fn engaged_byte(n: u8, devices: [Device; 8]) -> u8
         k += 1;
     }
     byte as u8
+}
+
+// The state at a tick's end, and the down letter that was sent in it.
+pub(crate) struct Stepped {
+    pub yard: Yard,
+    pub down: Down,
+}
+
+fn broad(x: u16) -> u32
+    ensures { λ r. ⌜ (r ≡ x) × (r < 65536) ⌝ }
+{
+    x as u32
+}
+
+pub(crate) fn terms_of(p: Plan) -> Terms
+    requires { ⌜ p .N ≤ 8 ⌝ }
+    ensures { λ r. ⌜ r ≡ terms p ⌝ }
+{
+    let slots = p.slots;
+    let s = slots[0];
+    Terms {
+        N: p.N as u8,
+        W: p.W,
+        B: p.B,
+        LS: broad(s.E) + broad(s.R) + broad(s.X),
+    }
+}
+
+fn base_index(base: Base) -> u8
+    ensures { λ r. ⌜ r ≡ baseIndex base ⌝ }
+{
+    match base {
+        Base::FallBack => 0,
+        Base::Lease(i) => i,
+        Base::Cancel(i) => i,
+        Base::Abort(i) => i,
+    }
+}
+
+// One tick of a yard whose clocks and index are those of a well-formed state.
+pub(crate) fn one_tick(p: Plan, t: Terms, y: Yard, r: Record) -> Stepped
+    requires { ⌜ Ready p y × (t ≡ terms p) ⌝ }
+    ensures { λ s. ⌜ (s .yard ≡ tick p y r) × (s .down ≡ sent p y r .down) ⌝ }
+{
+    let slots = p.slots;
+    let n = t.N;
+    let base = y.base;
+    let start = y.devices;
+    let up = rise(p.Q, n, slots, r.command, start);
+    let last = heard(r.lost, n, up);
+    let own = heard(r.lost, base_index(base), up);
+    let clock = place_clock(t, base, y.clock);
+    let lease = lease_clock(base, y.lease);
+    let m = base::base_move(t, bit(r.flags, 0), last, own, base, clock, lease);
+    let down = m.down;
+    let place = m.base;
+    let devices = settle(n, slots, bit(r.flags, 1), r.willing, down, up);
+    let yard = Yard {
+        base: place,
+        clock: m.clock,
+        lease: m.lease,
+        devices,
+    };
+    Stepped { yard, down }
 }

@@ -1,3 +1,10 @@
+use Rattle.yard.proofs.Bytes.{power-small, power-next, byte-below, byte-small, byte-next}
+use Prim.Native.Nat.{ℕ, _+_, _-_, _*_, _^_, _≤_, _<_}
+use native.Mathlib.Omega.{arith}
+use mathlib.Core.Path.{_≡_, refl, sym, _∙_, ap}
+use borrow.Author.Needs.{needs}
+use Rattle.laws.specs.Bits.{ofBits}
+use Rattle.yard.specs.Sweep.{byteOf}
 use Rattle.yard.proofs.step.engaged_byte.Statement.{statement}
 use Rattle.yard.proofs.step.engaged_byte.Tie as tie
 use Rattle.yard.proofs.step.engaged_byte.Reads as reads
@@ -6,58 +13,55 @@ use Rattle.yard.proofs.step.is_engaged.Reads as is-engaged-reads
 use Rattle.yard.proofs.step.with_bit.Reads as with-bit-reads
 
 abbrev Inv-loop : tie.InvT-loop
-Inv-loop n devices byte₀ power₀ k₀ byte power k = ?
+Inv-loop n devices byte₀ power₀ k₀ byte power k = (k ≤ n) × (byte ≡ byteOf k devices) × (power ≡ 2 ^ k)
 
 abbrev μ-loop : tie.MeasureT-loop
-μ-loop n devices byte₀ power₀ k₀ byte power k = ?
+μ-loop n devices byte₀ power₀ k₀ byte power k = n - k
 
--- src/step.rt:120:5
 loop-holds : tie.Need-loop-holds Inv-loop μ-loop
-loop-holds c = ?
+unfolding ofBits
+loop-holds c = (omega arith, refl, refl)
 
--- src/step.rt:121:18
 cast-at : tie.Need-cast-at Inv-loop μ-loop
-cast-at c = ?
+cast-at c = search needs
 
--- src/step.rt:122:17
 mul-d : tie.Need-mul-d Inv-loop μ-loop
-mul-d c = ?
+mul-d c = search needs
 
--- src/step.rt:122:17
 array-copy-out-d : tie.Need-array-copy-out-d Inv-loop μ-loop
-array-copy-out-d c = ?
+array-copy-out-d c = search needs
 
--- src/step.rt:124:38
 is-engaged-requires : tie.Need-is-engaged-requires Inv-loop μ-loop
-is-engaged-requires c κs = ?
+is-engaged-requires c κs = search needs
 
--- src/step.rt:124:9
 with-bit-requires : tie.Need-with-bit-requires Inv-loop μ-loop
-with-bit-requires c κs = ?
+with-bit-requires c κs =
+    omega (arith, byte-below (c .before .before .before .before .args .t2) (c .before .before .before .loop .k), power-small (c .before .before .before .loop .k) (omega arith))
 
--- src/step.rt:125:17
 mul-power : tie.Need-mul-power Inv-loop μ-loop
-mul-power c = ?
+mul-power c = omega (arith, power-small (c .before .before .before .before .loop .k) (omega arith))
 
--- src/step.rt:126:9
 add-k : tie.Need-add-k Inv-loop μ-loop
-add-k c = ?
+add-k c = search needs
 
--- src/step.rt:120:5
 loop-less : tie.Need-loop-less Inv-loop μ-loop
-loop-less c = ?
+loop-less c = search needs
 
--- src/step.rt:120:5
 loop-again : tie.Need-loop-again Inv-loop μ-loop
-loop-again c = ?
+loop-again c =
+    let inv = c .before .before .before .before .loop .inv in
+    (omega arith,
+    c .with-bit .ensures
+    ∙ byte-next (c .before .before .before .before .before .args .t2) (c .before .before .before .before .loop .k) _ _ _ (inv .1) (inv .2) (c .before .is-engaged .ensures),
+    power-next (c .before .before .before .before .loop .k) _ (inv .2))
 
--- src/step.rt:128:5
 cast-result : tie.Need-cast-result Inv-loop μ-loop
-cast-result c = ?
+cast-result c = omega (arith, byte-small (c .before .before .args .t2) (c .before .loop .k) (omega arith))
 
--- src/step.rt:113:1
 returns : tie.Need-returns Inv-loop μ-loop
-returns c = ?
+returns c =
+    let all : c .before .loop .k ≡ c .before .before .args .n = omega arith in
+    rw all at (c .before .loop .inv .1)
 
 pub engaged-byte-spec : {M : Type 1} → statement M
 engaged-byte-spec =

@@ -1,3 +1,5 @@
+use mathlib.Core.List.{List}
+use Rattle.rules.specs.declared.Device.{Device}
 use Prim.Native.Nat.{ℕ, _+_, _-_, _≤_, _<_}
 use native.Mathlib.Omega.{arith}
 use mathlib.Core.Path.{_≡_, refl, sym, _∙_, ap}
@@ -20,7 +22,10 @@ abbrev μ-loop : tie.MeasureT-loop
 μ-loop q n command slots now₀ k₀ now k = n - k
 
 loop-holds : tie.Need-loop-holds Inv-loop μ-loop
-loop-holds c = (omega arith, sweep-start (risenBy (c .args .q) (c .args .n) (c .args .t3) (c .args .command)) (c .args .devices) (search needs))
+loop-holds c =
+    let f : ℕ → Device → Device = risenBy (c .args .q) (c .args .n) (c .args .t3) (c .args .command) in
+    let ds : List Device = c .args .devices in
+    (omega arith, sweep-start f ds (search needs))
 
 cast-at : tie.Need-cast-at Inv-loop μ-loop
 cast-at c = search needs
@@ -42,8 +47,10 @@ array-copy-out-clocked c = search needs
 
 clocked-requires : tie.Need-clocked-requires Inv-loop μ-loop
 clocked-requires c κs =
+    let f : ℕ → Device → Device = risenBy (c .before .before .before .before .args .q) (c .before .before .before .before .args .n) (c .before .before .before .before .args .t3) (c .before .before .before .before .args .command) in
+    let ds : List Device = c .before .before .before .before .args .devices in
     let k : ℕ = c .before .before .before .loop .k in
-    rw (c .before .before .before .loop .inv .1, sweep-here (risenBy (c .before .before .before .before .args .q) (c .before .before .before .before .args .n) (c .before .before .before .before .args .t3) (c .before .before .before .before .args .command)) (c .before .before .before .before .args .devices) k (omega arith)) (c .before .before .before .before .pre .1 k (omega arith))
+    rw (c .before .before .before .loop .inv .1, sweep-here f ds k (omega arith)) (c .before .before .before .before .pre .1 k (omega arith))
 
 moved-requires : tie.Need-moved-requires Inv-loop μ-loop
 moved-requires c κs = search needs
@@ -62,14 +69,16 @@ loop-less c = search needs
 
 loop-again : tie.Need-loop-again Inv-loop μ-loop
 loop-again c =
+    let f : ℕ → Device → Device = risenBy (c .before .before .before .before .before .before .args .q) (c .before .before .before .before .before .before .args .n) (c .before .before .before .before .before .before .args .t3) (c .before .before .before .before .before .before .args .command) in
+    let ds : List Device = c .before .before .before .before .before .before .args .devices in
     let k : ℕ = c .before .before .before .before .before .loop .k in
-    let inv : c .before .before .before .before .before .loop .now ≡ sweep k (risenBy (c .before .before .before .before .before .before .args .q) (c .before .before .before .before .before .before .args .n) (c .before .before .before .before .before .before .args .t3) (c .before .before .before .before .before .before .args .command)) (c .before .before .before .before .before .before .args .devices) = c .before .before .before .before .before .loop .inv .1 in (
-      omega arith,
-      rw inv
-          (sweep-next (risenBy (c .before .before .before .before .before .before .args .q) (c .before .before .before .before .before .before .args .n) (c .before .before .before .before .before .before .args .t3) (c .before .before .before .before .before .before .args .command)) (c .before .before .before .before .before .before .args .devices) k (c .moved .result) (omega arith)
-          (c .moved .ensures
-          ∙ rw (c .before .clocked .ensures, inv, sweep-here (risenBy (c .before .before .before .before .before .before .args .q) (c .before .before .before .before .before .before .args .n) (c .before .before .before .before .before .before .args .t3) (c .before .before .before .before .before .before .args .command)) (c .before .before .before .before .before .before .args .devices) k (omega arith)) (sym (risen-at (c .before .before .before .before .before .before .args .q) (c .before .before .before .before .before .before .args .n) (c .before .before .before .before .before .before .args .t3) (c .before .before .before .before .before .before .args .command) k (getD (c .before .before .before .before .before .before .args .devices) k freshDevice))))),
-    )
+    let inv : c .before .before .before .before .before .loop .now ≡ sweep k f ds = c .before .before .before .before .before .loop .inv .1 in
+    (omega arith,
+    rw inv
+    (sweep-next f ds k (c .moved .result) (omega arith)
+    (c .moved .ensures
+    ∙ rw (c .before .clocked .ensures, inv, sweep-here f ds k (omega arith))
+    (sym (risen-at (c .before .before .before .before .before .before .args .q) (c .before .before .before .before .before .before .args .n) (c .before .before .before .before .before .before .args .t3) (c .before .before .before .before .before .before .args .command) k (getD ds k freshDevice))))))
 
 returns : tie.Need-returns Inv-loop μ-loop
 returns c =

@@ -1,3 +1,13 @@
+use Prim.Native.Nat.{ℕ, _+_, _-_, _≤_, _<_}
+use native.Mathlib.Omega.{arith}
+use mathlib.Core.Path.{_≡_, sym, _∙_}
+use mathlib.Core.List.{List}
+use lib.ListN.{getD}
+use borrow.Author.Needs.{needs}
+use Rattle.rules.specs.declared.Device.{Device}
+use Rattle.rules.specs.Yard.{freshDevice}
+use Rattle.yard.specs.Sweep.{sweep, settledBy}
+use Rattle.yard.proofs.Sweeps.{sweep-start, sweep-here, sweep-next, settled-at}
 use Rattle.yard.proofs.step.settle.Statement.{statement}
 use Rattle.yard.proofs.step.settle.Tie as tie
 use Rattle.yard.proofs.step.settle.Reads as reads
@@ -6,70 +16,70 @@ use Rattle.yard.proofs.bits.bit.Reads as bit-reads
 use Rattle.yard.proofs.step.settled.Reads as settled-reads
 
 abbrev Inv-loop : tie.InvT-loop
-Inv-loop n lost willing l slots now₀ k₀ now k = ?
+Inv-loop n lost willing l slots now₀ k₀ now k = (k ≤ n) × (now ≡ sweep k (settledBy slots lost willing l) now₀)
 
 abbrev μ-loop : tie.MeasureT-loop
-μ-loop n lost willing l slots now₀ k₀ now k = ?
+μ-loop n lost willing l slots now₀ k₀ now k = n - k
 
--- src/step.rt:56:5
 loop-holds : tie.Need-loop-holds Inv-loop μ-loop
-loop-holds c = ?
+loop-holds c =
+    let f : ℕ → Device → Device = settledBy (c .args .t2) (c .args .lost) (c .args .willing) (c .args .l) in
+    let ds : List Device = c .args .devices in
+    (omega arith, sweep-start f ds (search needs))
 
--- src/step.rt:57:18
 cast-at : tie.Need-cast-at Inv-loop μ-loop
-cast-at c = ?
+cast-at c = search needs
 
--- src/step.rt:58:13
 bit-requires : tie.Need-bit-requires Inv-loop μ-loop
-bit-requires c κs = ?
+bit-requires c κs = search needs
 
--- src/step.rt:59:33
 mul-settled : tie.Need-mul-settled Inv-loop μ-loop
-mul-settled c = ?
+mul-settled c = search needs
 
--- src/step.rt:59:33
 array-copy-out-settled : tie.Need-array-copy-out-settled Inv-loop μ-loop
-array-copy-out-settled c = ?
+array-copy-out-settled c = search needs
 
--- src/step.rt:59:54
 add-settled : tie.Need-add-settled Inv-loop μ-loop
-add-settled c = ?
+add-settled c = search needs
 
--- src/step.rt:59:61
 mul-settled-2 : tie.Need-mul-settled-2 Inv-loop μ-loop
-mul-settled-2 c = ?
+mul-settled-2 c = search needs
 
--- src/step.rt:59:61
 array-copy-out-settled-2 : tie.Need-array-copy-out-settled-2 Inv-loop μ-loop
-array-copy-out-settled-2 c = ?
+array-copy-out-settled-2 c = search needs
 
--- src/step.rt:59:19
 settled-requires : tie.Need-settled-requires Inv-loop μ-loop
-settled-requires c κs = ?
+settled-requires c κs = search needs
 
--- src/step.rt:59:9
 mul-now : tie.Need-mul-now Inv-loop μ-loop
-mul-now c = ?
+mul-now c = search needs
 
--- src/step.rt:59:9
 array-set-from-now : tie.Need-array-set-from-now Inv-loop μ-loop
-array-set-from-now c = ?
+array-set-from-now c = search needs
 
--- src/step.rt:60:9
 add-k : tie.Need-add-k Inv-loop μ-loop
-add-k c = ?
+add-k c = search needs
 
--- src/step.rt:56:5
 loop-less : tie.Need-loop-less Inv-loop μ-loop
-loop-less c = ?
+loop-less c = search needs
 
--- src/step.rt:56:5
 loop-again : tie.Need-loop-again Inv-loop μ-loop
-loop-again c = ?
+loop-again c =
+    let f : ℕ → Device → Device = settledBy (c .before .before .before .before .before .before .args .t2) (c .before .before .before .before .before .before .args .lost) (c .before .before .before .before .before .before .args .willing) (c .before .before .before .before .before .before .args .l) in
+    let ds : List Device = c .before .before .before .before .before .before .args .devices in
+    let k : ℕ = c .before .before .before .before .before .loop .k in
+    let inv : c .before .before .before .before .before .loop .now ≡ sweep k f ds = c .before .before .before .before .before .loop .inv .1 in
+    (omega arith,
+    rw inv
+    (sweep-next f ds k (c .settled .result) (omega arith)
+    (c .settled .ensures
+    ∙ rw (c .before .before .before .bit .ensures, inv, sweep-here f ds k (omega arith))
+    (sym (settled-at (c .before .before .before .before .before .before .args .t2) (c .before .before .before .before .before .before .args .lost) (c .before .before .before .before .before .before .args .willing) (c .before .before .before .before .before .before .args .l) k (getD ds k freshDevice))))))
 
--- src/step.rt:50:1
 returns : tie.Need-returns Inv-loop μ-loop
-returns c = ?
+returns c =
+    let all : c .before .loop .k ≡ c .before .before .args .n = omega arith in
+    rw all at (c .before .loop .inv .1)
 
 pub settle-spec : {M : Type 1} → statement M
 settle-spec =
