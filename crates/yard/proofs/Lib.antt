@@ -1,5 +1,6 @@
 pub mod Sweeps
 pub mod Bytes
-pub mod Tick
+pub mod OneTick
 pub mod Ready
 pub mod Loop
+pub mod Answers

@@ -1,7 +1,7 @@
 use Rattle.rules.specs.declared.Plan.{Plan}
 use Rattle.rules.specs.declared.Yard.{Yard}
 use Rattle.rules.specs.declared.Record.{Record}
-use Rattle.yard.proofs.Tick.{ticked}
+use Rattle.yard.proofs.OneTick.{ticked}
 use borrow.Author.Needs.{needs}
 use Rattle.yard.proofs.step.one_tick.Statement.{statement}
 use Rattle.yard.proofs.step.one_tick.Tie as tie
