@@ -1,16 +1,14 @@
 -- Theorem 1: a plan is accepted exactly when it meets the table.
-use Prim.Native.Nat.{ℕ, zero, suc, _+_, _-_, _*_, _≤_, _<_}
+use Prim.Native.Nat.{ℕ, zero, suc, _≤_, _<_}
 use native.Mathlib.Omega.{arith}
-use mathlib.Core.Path.{_≡_, refl, sym, _∙_, ap}
-use mathlib.Core.Bool.{Bool, true, false}
-use mathlib.Core.List.{List, [], _∷_, map}
-use lib.Dec.{leb, ltb, eqb}
-use borrow.Author.Tests.{ltb-true, leb-true, eqb-true, lt-ltb, le-leb, eq-eqb}
-use Rattle.laws.specs.Tests.{allOf, anyOf}
-use Rattle.laws.proofs.Tests.{tests, case, NoneHolds, Hold, all-hold, all-of, none-hold, none-of}
+use mathlib.Core.Path.{_≡_, refl}
+use mathlib.Core.Bool.{false}
+use lib.Dec.{leb, eqb}
+use borrow.Author.Tests.{leb-true, eqb-true, lt-ltb, le-leb, eq-eqb}
+use Rattle.laws.proofs.Tests.{tests, case, holds, NoneHolds, all-hold, all-of, none-hold, none-of}
 use Rattle.rules.specs.declared.Plan.{Plan}
 use Rattle.rules.specs.declared.Verdict.the-variants.{Accepted}
-use Rattle.rules.specs.Plan.{slot, stay, LS, emptySlot, isTime, isDevice, isPair, isAbove}
+use Rattle.rules.specs.Plan.{slot, emptySlot, isDevice, isPair, isAbove}
 use Rattle.rules.specs.Table.{line1, line2, line3, line4, line5, line6, line7, line8, line9, table, broken, lineVerdict, planVerdict}
 use Rattle.rules.specs.Theorems.{Time, Accepts, AcceptedExactly}
 use Rattle.rules.proofs.Answers.{all-accepted, none-refused}
@@ -67,33 +65,9 @@ module _ (p : Plan) where
         let S : slot p i .S ≡ 0 = eqb-true _ _ (h .1 .1 .1 .1 .1 .0) in
         λ j. record { F = F j; E = E j; R = R j; X = X j; G = G j; S = S j }
 
-    c2 : p .N * p .W < LS p
-    unfolding broken table line4
-    c2 = ltb-true _ _ (given (eqb 0 0) _ (u 4 0 (omega arith)) refl)
-
-    c3 : ((p .N - 1) * p .W < p .Q) × (p .Q < LS p)
-    unfolding broken table line5
-    c3 =
-        let h = all-hold _ (given (eqb 0 0) _ (u 5 0 (omega arith)) refl) in
-        (ltb-true _ _ (h .0), ltb-true _ _ (h .1 .0))
-
-    c4 : (i : ℕ) → 1 ≤ i → i ≤ p .N → (i - 1) * p .W + stay p i ≤ LS p
-    unfolding broken table line6
-    c4 i low high = leb-true _ _ (given (isDevice p i) _ (u 6 i (omega (arith, size))) (is-device p i low high))
-
-    c5 : (i : ℕ) → 1 ≤ i → i < p .N → slot p i .E + slot p i .G < slot p (i + 1) .E
-    unfolding broken table line7
-    c5 i low high = ltb-true _ _ (given (isPair p i) _ (u 7 i (omega (arith, size))) (is-pair p i low high))
-
-    c6 : (i : ℕ) → 1 ≤ i → i < p .N → p .W + stay p (i + 1) < slot p i .E + slot p i .R
-    unfolding broken table line8
-    c6 i low high = ltb-true _ _ (given (isPair p i) _ (u 8 i (omega (arith, size))) (is-pair p i low high))
-
-    c7 : (i : ℕ) → 1 ≤ i → i < p .N → slot p i .S < slot p i .X
-    unfolding broken table line9
-    c7 i low high = ltb-true _ _ (given (isPair p i) _ (u 9 i (omega (arith, size))) (is-pair p i low high))
-
+    -- The conditions c2 to c7 are what the lines test.
     meets : Accepts p
+    unfolding broken table line4 line5 line6 line7 line8 line9
     meets =
         record {
           devices = size;
@@ -102,12 +76,12 @@ module _ (p : Plan) where
           pairTimes = pair-times;
           lastSpacing = last-spacing;
           unused = unused;
-          c2 = c2;
-          c3 = c3;
-          c4 = c4;
-          c5 = c5;
-          c6 = c6;
-          c7 = c7;
+          c2 = omega (tests, given (eqb 0 0) _ (u 4 0 (omega arith)) refl);
+          c3 = let h = all-hold _ (given (eqb 0 0) _ (u 5 0 (omega arith)) refl) in omega tests;
+          c4 = λ i low high. omega (tests, given (isDevice p i) _ (u 6 i (omega (arith, size))) (is-device p i low high));
+          c5 = λ i low high. omega (tests, given (isPair p i) _ (u 7 i (omega (arith, size))) (is-pair p i low high));
+          c6 = λ i low high. omega (tests, given (isPair p i) _ (u 8 i (omega (arith, size))) (is-pair p i low high));
+          c7 = λ i low high. omega (tests, given (isPair p i) _ (u 9 i (omega (arith, size))) (is-pair p i low high));
         }
 
   -- And back: what the table asks keeps every line unbroken.
@@ -158,16 +132,16 @@ module _ (p : Plan) where
         (
           zeros-kept i,
           (
-            kept (eqb i 0) _ (λ q. lt-ltb _ _ (a .c2)),
+            kept (eqb i 0) _ (λ q. holds (λ e. omega (tests, a .c2))),
             (
               kept (eqb i 0) _ (λ q. all-of _ (lt-ltb _ _ (a .c3 .0), (lt-ltb _ _ (a .c3 .1), tt))),
               (
-                kept (isDevice p i) _ (λ q. let d = device-is p i q in le-leb _ _ (a .c4 i (d .0) (d .1))),
+                kept (isDevice p i) _ (λ q. let d = device-is p i q in holds (λ e. omega (tests, a .c4 i (d .0) (d .1)))),
                 (
-                  kept (isPair p i) _ (λ q. let d = pair-is p i q in lt-ltb _ _ (a .c5 i (d .0) (d .1))),
+                  kept (isPair p i) _ (λ q. let d = pair-is p i q in holds (λ e. omega (tests, a .c5 i (d .0) (d .1)))),
                   (
-                    kept (isPair p i) _ (λ q. let d = pair-is p i q in lt-ltb _ _ (a .c6 i (d .0) (d .1))),
-                    (kept (isPair p i) _ (λ q. let d = pair-is p i q in lt-ltb _ _ (a .c7 i (d .0) (d .1))), tt),
+                    kept (isPair p i) _ (λ q. let d = pair-is p i q in holds (λ e. omega (tests, a .c6 i (d .0) (d .1)))),
+                    (kept (isPair p i) _ (λ q. let d = pair-is p i q in holds (λ e. omega (tests, a .c7 i (d .0) (d .1)))), tt),
                   ),
                 ),
               ),

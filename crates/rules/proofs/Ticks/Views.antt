@@ -1,8 +1,7 @@
 -- What a tick does to one device: its four steps, seen at device i. Everything about a general i goes through here.
 use Prim.Native.Nat.{ℕ, _≤_, _<_}
-use native.Mathlib.Omega.{arith}
-use mathlib.Core.Path.{_≡_, refl, sym, _∙_, ap}
-use mathlib.Core.Bool.{Bool, true, false, cond}
+use mathlib.Core.Path.{_≡_, refl, _∙_, ap}
+use mathlib.Core.Bool.{cond}
 use lib.Dec.{leb}
 use borrow.Author.Tests.{le-leb, lt-leb}
 use Rattle.laws.proofs.Lists.{tabulate-at}
@@ -10,13 +9,12 @@ use Rattle.rules.specs.declared.Plan.{Plan}
 use Rattle.rules.specs.declared.Yard.{Yard}
 use Rattle.rules.specs.declared.Record.{Record}
 use Rattle.rules.specs.declared.Device.{Device}
-use Rattle.rules.specs.declared.Letter.{Letter}
 use Rattle.rules.specs.declared.Letter.the-variants as letter
 use Rattle.rules.specs.declared.BaseMove.{BaseMove}
 use Rattle.rules.specs.Plan.{terms}
 use Rattle.rules.specs.Yard.{at, device, freshDevice}
 use Rattle.rules.specs.Tick.{sent, tick}
-use Rattle.rules.specs.Tick.Input.{approval, upLost}
+use Rattle.rules.specs.Tick.Input.{approval}
 use Rattle.rules.specs.Tick.Step1.{eachDevice, placeClock, leaseClock, clocked, step1}
 use Rattle.rules.specs.Tick.Step2.{movedAt, step2}
 use Rattle.rules.specs.Tick.Step3.{heard, baseMove, baseIndex, letterGone, step3}
@@ -69,10 +67,6 @@ module _ (p : Plan) (y : Yard) (r : Record) where
         ∙ each-unused p letterGone risen (sent p y r .yard) refl i low high over
         ∙ each-unused p (movedAt p r) (step1 p y) risen refl i low high over
         ∙ each-unused p (clocked p) y (step1 p y) refl i low high over
-
-    -- What is heard from device i: the letter that it holds after its own move.
-    pub heard-used : i ≤ p .N → heard r risen i ≡ cond (upLost r i) letter.None (up i .letter)
-    heard-used used = rw (risen-used used)
 
   -- Where the supervisor then stands, and what it has sent.
   pub tick-base : tick p y r .base ≡ turn .base
