@@ -4,7 +4,7 @@
 use Prim.Native.Nat.{ℕ, _+_, _-_, _≤_, _<_}
 use mathlib.Core.Path.{_≡_}
 use mathlib.Core.Bool.{Bool, true, false}
-use mathlib.Core.List.{List, [], _∷_}
+use mathlib.Core.List.{List, [], _∷_, _++_}
 use lib.Dec.{leb}
 use lib.ListN.{length, getD}
 use Rattle.laws.specs.Tests.{allOf}
@@ -76,10 +76,11 @@ SpacedAsPlanned = (p : Plan) (roll : List ℕ) (n : ℕ) → planVerdict p ≡ A
 abbrev pub shown : List ℕ → ℕ → ℕ → Bool
 shown bytes i t = allOf (leb 1 t ∷ bit (getD bytes (t - 1) 0) (i - 1) ∷ [])
 
--- Promises 1 to 3 as facts about those bytes (`bytes-kept`).
+-- Promises 1 to 3 as facts about those bytes, whatever stands behind them in the buffer (`bytes-kept`).
 abbrev pub BytesKept : Type 0
 BytesKept =
-    (p : Plan) (roll : List ℕ) (n : ℕ) → planVerdict p ≡ Accepted → Kept p (shown (engagedBytes p freshYard roll n)) n
+    (p : Plan) (roll : List ℕ) (n : ℕ) (rest : List ℕ) → planVerdict p ≡ Accepted
+    → Kept p (shown (engagedBytes p freshYard roll n ++ rest)) n
 
 -- Promise 4: the base is away from Fall-Back for at most LS ticks in a row (`leases-end`).
 abbrev pub LeasesEnd : Type 0

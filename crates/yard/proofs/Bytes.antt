@@ -33,5 +33,5 @@ pub byte-next :
 unfolding ofBits
 byte-next ds k byte power on e q o =
     let here : on ≡ engaged (deviceAt ds (k + 1) .place) =
-        o ∙ ap (λ (j : ℕ). engaged (getD ds j freshDevice .place)) {x = k} {y = k + 1 - 1} (omega arith) in
+    o ∙ ap (λ (j : ℕ). engaged (getD ds j freshDevice .place)) {x = k} {y = k + 1 - 1} (omega arith) in
     rw (add-one k, e, q, here) refl

@@ -70,27 +70,28 @@ module _ (p : Plan) (y : Yard) (r : Record) where
       (lost-is : lost ≡ bit (r .flags) 1)
       (devices-is : devices ≡ sweep (t .N) (settledBy (p .slots) lost (r .willing) (m .down)) up)
     where
-    up-risen : up ≡ risen p y r .devices
-    up-risen = up-is ∙ rw t-is (sym rises)
+      up-risen : up ≡ risen p y r .devices
+      up-risen = up-is ∙ rw t-is (sym rises)
 
-    m-turn : m ≡ turn p y r
-    unfolding device
-    m-turn = m-is ∙ rw (last-is, own-is, up-risen, i-is, clock-is, lease-is, approved-is, t-is)
+      m-turn : m ≡ turn p y r
+      unfolding device
+      m-turn = m-is ∙ rw (last-is, own-is, up-risen, i-is, clock-is, lease-is, approved-is, t-is)
 
-    devices-settled : devices ≡ tick p y r .devices
-    devices-settled = devices-is ∙ rw (t-is, lost-is, m-turn, up-risen) (sym settles)
+      devices-settled : devices ≡ tick p y r .devices
+      devices-settled = devices-is ∙ rw (t-is, lost-is, m-turn, up-risen) (sym settles)
 
-    -- The yard and the down letter that it answers.
-    pub ticked :
-        (record { base = m .base; clock = m .clock; lease = m .lease; devices = devices } ≡ tick p y r)
-        × (m .down ≡ sent p y r .down)
-    unfolding tick sent step1 step2 step3 step4
-    ticked =
-        (λ j.
+      -- The yard and the down letter that it answers.
+      pub ticked :
+          (record { base = m .base; clock = m .clock; lease = m .lease; devices = devices } ≡ tick p y r)
+          × (m .down ≡ sent p y r .down)
+      unfolding tick sent step1 step2 step3 step4
+      ticked = (
+        λ j.
             record {
-                base = m-turn j .base;
-                clock = m-turn j .clock;
-                lease = m-turn j .lease;
-                devices = devices-settled j
+              base = m-turn j .base;
+              clock = m-turn j .clock;
+              lease = m-turn j .lease;
+              devices = devices-settled j;
             },
-        ap (λ (n : BaseMove). n .down) m-turn ∙ sym (tick-down p y r))
+        ap (λ (n : BaseMove). n .down) m-turn ∙ sym (tick-down p y r),
+      )

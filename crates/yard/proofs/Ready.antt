@@ -31,12 +31,13 @@ module _ (p : Plan) (a : Accepts p) where
 
   based-ready : (b : Base) (c l : ℕ) → Based p b c l → (baseIndex b ≤ 8) × (c ≤ 36000) × (l ≤ 108000)
   based-ready base.FallBack c l h = (omega arith, omega (arith, a .yardTimes .1 .high), omega arith)
-  based-ready (base.Lease i) c l h =
-      (omega (arith, h .0 .high, a .devices),
-      case (ltb i (p .N))
-      (λ q. omega (arith, h .1 (ltb-true _ _ q), a .yardTimes .0 .high))
-      (λ q. omega (arith, h .2 (ltb-false _ _ q))),
-      omega (arith, h .0 .short, long))
+  based-ready (base.Lease i) c l h = (
+    omega (arith, h .0 .high, a .devices),
+    case (ltb i (p .N))
+        (λ q. omega (arith, h .1 (ltb-true _ _ q), a .yardTimes .0 .high))
+        (λ q. omega (arith, h .2 (ltb-false _ _ q))),
+    omega (arith, h .0 .short, long),
+  )
   based-ready (base.Cancel i) c l h = (omega (arith, h .0 .high, a .devices), omega arith, omega (arith, h .0 .short, long))
   based-ready (base.Abort i) c l h = (omega (arith, h .0 .high, a .devices), omega arith, omega (arith, h .0 .short, long))
 

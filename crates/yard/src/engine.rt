@@ -1,8 +1,12 @@
 // The loop that every tick goes through: the single tick and the run both lend it a roll and a buffer.
 use crate::roll::record_at;
-use crate::step::{Stepped, engaged_byte, one_tick, terms_of};
-use rules::{Down, Plan, Yard};
-
+use crate::step::Stepped;
+use crate::step::engaged_byte;
+use crate::step::one_tick;
+use crate::step::terms_of;
+use rules::Down;
+use rules::Plan;
+use rules::Yard;
 ghost use mathlib.Core.Path.{_≡_};
 ghost use mathlib.Core.Bool.{true};
 ghost use mathlib.Core.List.{_++_};

@@ -6,14 +6,28 @@ pub mod roll;
 mod step;
 
 use engine::roll_on;
-use roll::{first_bad, valid_record};
-use rules::{Base, Device, Down, FreshAnswer, Letter, Place, Plan, Record, RunAnswer, TickAnswer, Verdict, Yard};
-
+use roll::first_bad;
+use roll::valid_record;
+use rules::Base;
+use rules::Device;
+use rules::Down;
+use rules::FreshAnswer;
+use rules::Letter;
+use rules::Place;
+use rules::Plan;
+use rules::Record;
+use rules::RunAnswer;
+use rules::TickAnswer;
+use rules::Verdict;
+use rules::Yard;
 ghost use mathlib.Core.Path.{_≡_};
 ghost use Prim.Native.Nat.{min};
+ghost use Rattle.rules.specs.declared.Verdict.the-variants.{Accepted};
+ghost use Rattle.rules.specs.Table.{planVerdict};
 ghost use Rattle.rules.specs.Yard.{freshYard, freshAnswer};
 ghost use Rattle.rules.specs.Tick.{tickVerdict, tickAnswer};
 ghost use Rattle.rules.specs.Run.{runAnswer, runBuffer};
+ghost use Rattle.rules.specs.Promises.{Kept, shown};
 ghost use Rattle.yard.specs.Refusals.{verdictFor};
 
 fn fresh_yard() -> Yard
@@ -49,10 +63,16 @@ fn tick_verdict(p: Plan, y: Yard, r: Record) -> Verdict
         return plan;
     };
     if !state::well_formed(p, y) {
-        return Verdict::Refused { number: 11, index: 0 };
+        return Verdict::Refused {
+            number: 11,
+            index: 0,
+        };
     }
     if !valid_record(p, r) {
-        return Verdict::Refused { number: 10, index: 1 };
+        return Verdict::Refused {
+            number: 10,
+            index: 1,
+        };
     }
     Verdict::Accepted
 }
@@ -100,10 +120,16 @@ fn run_verdict(p: Plan, y: Yard, roll: &[u8], ticks: usize, room: usize) -> Verd
         return plan;
     };
     if !state::well_formed(p, y) {
-        return Verdict::Refused { number: 11, index: 0 };
+        return Verdict::Refused {
+            number: 11,
+            index: 0,
+        };
     }
     if roll.len() % 4 != 0 {
-        return Verdict::Refused { number: 12, index: 0 };
+        return Verdict::Refused {
+            number: 12,
+            index: 0,
+        };
     }
     let bad = first_bad(p, roll);
     if bad < roll.len() / 4 {
@@ -113,7 +139,10 @@ fn run_verdict(p: Plan, y: Yard, roll: &[u8], ticks: usize, room: usize) -> Verd
         };
     }
     if room < ticks {
-        return Verdict::Refused { number: 13, index: 0 };
+        return Verdict::Refused {
+            number: 13,
+            index: 0,
+        };
     }
     Verdict::Accepted
 }
@@ -122,9 +151,12 @@ fn run_verdict(p: Plan, y: Yard, roll: &[u8], ticks: usize, room: usize) -> Verd
 // (11 at 0), its roll's length (12 at 0), the first bad record of the whole roll (10 at its number from 1), its buffer
 // (13 at 0), and then answers the state it was given and 0 ticks, and leaves the buffer as it is. Otherwise the buffer gets
 // one byte a tick, bit i-1 set when device i is engaged at that tick's end, and later bytes keep their value.
+// From a fresh yard under an accepted plan those bytes keep the promises: no stay is too long, and neighbours are nested
+// with their spacing.
 pub fn run(p: Plan, y: Yard, roll: &[u8], budget: usize, engaged: &mut [u8]) -> RunAnswer
     ensures { λ a. ⌜ a ≡ runAnswer p y (now (roll .entry)) budget (now (engaged .entry)) ⌝ }
     ensures { λ a. ⌜ now (engaged .exit) ≡ runBuffer p y (now (roll .entry)) budget (now (engaged .entry)) ⌝ }
+    ensures { λ a. ⌜ (planVerdict p ≡ Accepted → y ≡ freshYard → Kept p (shown (now (engaged .exit))) (a .ticks)) ⌝ }
 {
     let ticks = smaller(budget, roll.len() / 4);
     let verdict = run_verdict(p, y, roll, ticks, engaged.len());

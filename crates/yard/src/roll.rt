@@ -1,7 +1,7 @@
 // A roll of records, four bytes each, and whether they are valid (refusal 10).
 use crate::bits::clear_from;
-use rules::{Plan, Record};
-
+use rules::Plan;
+use rules::Record;
 ghost use mathlib.Core.Path.{_≡_};
 ghost use mathlib.Core.Bool.{not};
 ghost use Prim.Native.Nat.{_+_, _-_, _*_, _≤_};

@@ -4,7 +4,7 @@ use native.Mathlib.Omega.{arith}
 use mathlib.Core.Path.{_≡_, refl, sym, _∙_, ap}
 use mathlib.Core.Bool.{Bool, and-true}
 use mathlib.Core.List.{List, [], _∷_, _++_}
-use lib.ListN.{getD}
+use lib.ListN.{getD, List·getD-append}
 use borrow.Author.Tests.{le-leb}
 use Rattle.laws.specs.Tests.{allOf}
 use Rattle.laws.specs.Lists.{tabulate}
@@ -16,6 +16,7 @@ use Rattle.rules.specs.Run.{after, engagedByte, engagedBytes}
 use Rattle.rules.specs.Theorems.{Accepts}
 use Rattle.rules.specs.Promises.{yardAfter, placeAt, engagedAt, Kept, shown, BytesKept}
 use Rattle.rules.proofs.Plans.Accepted.{accepted-exactly}
+use Rattle.rules.proofs.Runs.Formed.{bytes-length}
 use Rattle.rules.proofs.Runs.Engaged.{byte-at}
 use Rattle.rules.proofs.Promises.Stays.Stay.{engaged-active}
 use Rattle.rules.proofs.Promises.Safe.Always.{fresh-idle}
@@ -39,7 +40,7 @@ module _ (p : Plan) (H K : ℕ → ℕ → Bool) (n : ℕ) (alike : (i t : ℕ) 
             ∙ k .after i t j low few (sym (alike (i + 1) t (omega arith) (omega arith) (omega arith)) ∙ is) near far;
       }
 
-module _ (p : Plan) (roll : List ℕ) where
+module _ (p : Plan) (roll rest : List ℕ) where
   abbrev byte : ℕ → ℕ
   byte t = engagedByte p (yardAfter p roll t)
 
@@ -48,12 +49,14 @@ module _ (p : Plan) (roll : List ℕ) where
   bytes-tabulated zero = refl
   bytes-tabulated (suc n) = ap (λ (l : List ℕ). l ++ (byte (suc n) ∷ [])) (bytes-tabulated n)
 
-  byte-shown : (n t : ℕ) → 1 ≤ t → t ≤ n → getD (engagedBytes p freshYard roll n) (t - 1) 0 ≡ byte t
-  byte-shown n t low high = rw (bytes-tabulated n) (tabulate-at byte n t 0 low high)
+  byte-shown : (n t : ℕ) → 1 ≤ t → t ≤ n → getD (engagedBytes p freshYard roll n ++ rest) (t - 1) 0 ≡ byte t
+  byte-shown n t low high =
+      List·getD-append (engagedBytes p freshYard roll n) rest 0 (t - 1) (omega (arith, bytes-length p freshYard roll n))
+      ∙ rw (bytes-tabulated n) (tabulate-at byte n t 0 low high)
 
   shown-engaged :
       Accepts p → (n i t : ℕ) → 1 ≤ i → i ≤ p .N → t ≤ n
-      → shown (engagedBytes p freshYard roll n) i t ≡ engagedAt p roll i t
+      → shown (engagedBytes p freshYard roll n ++ rest) i t ≡ engagedAt p roll i t
   unfolding allOf after
   shown-engaged a n i zero low high far =
       sym (fails (λ e. fresh-idle p a i low high (engaged-active (placeAt p roll i 0) e)))
@@ -62,6 +65,6 @@ module _ (p : Plan) (roll : List ℕ) where
       (and-true (engagedAt p roll i (suc t)))
 
 pub bytes-kept : BytesKept
-bytes-kept p roll n e =
-    alike-kept p (shown (engagedBytes p freshYard roll n)) (engagedAt p roll) n
-    (shown-engaged p roll (accepted-exactly p .0 e) n) (stays-and-spacing p roll n e)
+bytes-kept p roll n rest e =
+    alike-kept p (shown (engagedBytes p freshYard roll n ++ rest)) (engagedAt p roll) n
+    (shown-engaged p roll rest (accepted-exactly p .0 e) n) (stays-and-spacing p roll n e)

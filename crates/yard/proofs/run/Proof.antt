@@ -1,3 +1,10 @@
+use Prim.Native.Nat.{ℕ}
+use native.Mathlib.Omega.{arith}
+use mathlib.Core.Path.{sym, _∙_}
+use mathlib.Core.List.{List}
+use Rattle.rules.specs.declared.Plan.{Plan}
+use Rattle.rules.specs.declared.Yard.{Yard}
+use Rattle.yard.proofs.Answers.{run-refused, run-taken, run-accepted, run-keeps}
 use borrow.Author.Needs.{needs}
 use Rattle.yard.proofs.run.Statement.{statement}
 use Rattle.yard.proofs.run.Tie as tie
@@ -7,36 +14,51 @@ use Rattle.yard.proofs.engine.roll_on.Reads as roll-on-reads
 use Rattle.yard.proofs.run_verdict.Reads as run-verdict-reads
 use Rattle.yard.proofs.smaller.Reads as smaller-reads
 
--- src/lib.rt:129:9
 smaller-requires : tie.Need-smaller-requires
 smaller-requires c κs = search needs
 
--- src/lib.rt:130:9
 run-verdict-requires : tie.Need-run-verdict-requires
 run-verdict-requires c κs = search needs
 
 enum-told : tie.Need-enum-told
 enum-told c = search needs
 
--- src/lib.rt:132:9
 enum-told-2 : tie.Need-enum-told-2
 enum-told-2 c = search needs
 
--- src/lib.rt:132:9
 returns : tie.Need-returns
-returns c = ?
+returns c =
+    let a = c .before .before .before .before .before .before .args in
+    let p : Plan = a .p in
+    let y : Yard = a .y in
+    let roll : List ℕ = a .roll .now in
+    let buffer : List ℕ = a .engaged .now in
+    let e = run-refused p y roll (a .budget) buffer _ (c .before .before .before .smaller .ensures) _ (c .before .before .run-verdict .ensures) _ _ (c .enum-told2 .given .1) in
+    (e .0, (e .1, run-keeps p y roll (a .budget) buffer _ _ (e .0) (e .1)))
 
--- src/lib.rt:138:9
 roll-on-requires : tie.Need-roll-on-requires
-roll-on-requires c κs = ?
+roll-on-requires c κs =
+    let a = c .before .before .before .before .before .before .before .args in
+    let p : Plan = a .p in
+    let y : Yard = a .y in
+    let roll : List ℕ = a .roll .now in
+    let buffer : List ℕ = a .engaged .now in
+    let e = run-taken p y roll (a .budget) buffer _ (c .before .before .before .before .smaller .ensures) _ (c .before .before .before .run-verdict .ensures) (c .before .enum-told .given .1) in
+    ((e .0, e .1), (omega arith, e .2))
 
--- src/lib.rt:125:1
 same-length : tie.Need-same-length
 same-length c = search needs
 
--- src/lib.rt:125:1
 returns-2 : tie.Need-returns-2
-returns-2 c = ?
+returns-2 c =
+    let a = c .before .before .before .before .before .before .before .before .before .before .before .args in
+    let p : Plan = a .p in
+    let y : Yard = a .y in
+    let roll : List ℕ = a .roll .now in
+    let buffer : List ℕ = a .engaged .now in
+    let s = c .before .before .before .roll-on .ensures in
+    let e = run-accepted p y roll (a .budget) buffer _ (c .before .before .before .before .before .before .before .before .smaller .ensures) _ (c .before .before .before .before .before .before .before .run-verdict .ensures) (c .before .before .before .before .before .enum-told .given .1) _ _ (s .0 .0) (s .1) in
+    (e .0, (e .1, run-keeps p y roll (a .budget) buffer _ _ (e .0) (e .1)))
 
 pub run-spec : {M : Type 1} → statement M
 run-spec =

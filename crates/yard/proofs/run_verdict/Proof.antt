@@ -1,3 +1,9 @@
+use mathlib.Core.Path.{sym, _∙_}
+use borrow.Author.Tests.{eq-eqb, ne-eqb, lt-ltb, le-ltb}
+use Rattle.rules.specs.Verdict.{firstRefusal}
+use Rattle.rules.specs.Yard.{stateVerdict}
+use Rattle.rules.specs.Run.{rollVerdict}
+use Rattle.yard.specs.Refusals.{verdictFor}
 use borrow.Author.Needs.{needs}
 use Rattle.yard.proofs.run_verdict.Statement.{statement}
 use Rattle.yard.proofs.run_verdict.Tie as tie
@@ -7,52 +13,47 @@ use Rattle.plan.proofs.check.Reads as check-reads
 use Rattle.state.proofs.well_formed.Reads as well-formed-reads
 use Rattle.yard.proofs.roll.first_bad.Reads as first-bad-reads
 
--- src/lib.rt:98:9
 check-requires : tie.Need-check-requires
 check-requires c κs = search needs
 
 enum-told : tie.Need-enum-told
 enum-told c = search needs
 
--- src/lib.rt:100:9
 enum-told-2 : tie.Need-enum-told-2
 enum-told-2 c = search needs
 
--- src/lib.rt:100:9
 returns : tie.Need-returns
-returns c = ?
+unfolding verdictFor firstRefusal stateVerdict rollVerdict
+returns c = rw (sym (c .before .before .check .ensures) ∙ c .enum-told2 .given .1) (c .enum-told2 .given .1)
 
--- src/lib.rt:102:9
 well-formed-requires : tie.Need-well-formed-requires
 well-formed-requires c κs = search needs
 
--- src/lib.rt:103:9
 returns-2 : tie.Need-returns-2
-returns-2 c = ?
+unfolding verdictFor firstRefusal stateVerdict rollVerdict
+returns-2 c = rw (sym (c .before .before .before .before .check .ensures) ∙ c .before .before .enum-told .given .1, rw (c .before .well-formed .ensures) at (c .if1 .taken))
 
--- src/lib.rt:106:9
 returns-3 : tie.Need-returns-3
-returns-3 c = ?
+unfolding verdictFor firstRefusal stateVerdict rollVerdict
+returns-3 c = rw (sym (c .before .before .before .before .before .check .ensures) ∙ c .before .before .before .enum-told .given .1, rw (c .before .before .well-formed .ensures) at (c .before .if1 .left), ne-eqb _ _ (c .if2 .taken))
 
--- src/lib.rt:108:9
 first-bad-requires : tie.Need-first-bad-requires
 first-bad-requires c κs = search needs
 
--- src/lib.rt:112:20
 add-t12 : tie.Need-add-t12
 add-t12 c = search needs
 
--- src/lib.rt:110:9
 returns-4 : tie.Need-returns-4
-returns-4 c = ?
+unfolding verdictFor firstRefusal stateVerdict rollVerdict
+returns-4 c = rw (sym (c .before .before .before .before .before .before .before .check .ensures) ∙ c .before .before .before .before .before .enum-told .given .1, rw (c .before .before .before .before .well-formed .ensures) at (c .before .before .before .if1 .left), eq-eqb _ _ (c .before .before .if2 .left), ← (c .before .first-bad .ensures), lt-ltb _ _ (c .if3 .taken))
 
--- src/lib.rt:116:9
 returns-5 : tie.Need-returns-5
-returns-5 c = ?
+unfolding verdictFor firstRefusal stateVerdict rollVerdict
+returns-5 c = rw (sym (c .before .before .before .before .before .before .before .before .check .ensures) ∙ c .before .before .before .before .before .before .enum-told .given .1, rw (c .before .before .before .before .before .well-formed .ensures) at (c .before .before .before .before .if1 .left), eq-eqb _ _ (c .before .before .before .if2 .left), ← (c .before .before .first-bad .ensures), le-ltb _ _ (c .before .if3 .left), lt-ltb _ _ (c .if4 .taken))
 
--- src/lib.rt:95:1
 returns-6 : tie.Need-returns-6
-returns-6 c = ?
+unfolding verdictFor firstRefusal stateVerdict rollVerdict
+returns-6 c = rw (sym (c .before .before .before .before .before .before .before .before .check .ensures) ∙ c .before .before .before .before .before .before .enum-told .given .1, rw (c .before .before .before .before .before .well-formed .ensures) at (c .before .before .before .before .if1 .left), eq-eqb _ _ (c .before .before .before .if2 .left), ← (c .before .before .first-bad .ensures), le-ltb _ _ (c .before .if3 .left), le-ltb _ _ (c .if4 .left))
 
 pub run-verdict-spec : {M : Type 1} → statement M
 run-verdict-spec =

@@ -31,9 +31,10 @@ slice-aggregate-roll-on-2 c = search needs
 
 roll-on-requires : tie.Need-roll-on-requires
 roll-on-requires c κs =
-    let a = c .before .before .before .before .before .args in
-    (tick-taken (a .p) (a .y) (a .r) (sym (c .before .before .before .before .tick-verdict .ensures) ∙ c .before .before .enum-told .given .1),
-    (omega arith, omega arith))
+    let a = c .before .before .before .before .before .args in (
+      tick-taken (a .p) (a .y) (a .r) (sym (c .before .before .before .before .tick-verdict .ensures) ∙ c .before .before .enum-told .given .1),
+      (omega arith, omega arith),
+    )
 
 returns-2 : tie.Need-returns-2
 returns-2 c =

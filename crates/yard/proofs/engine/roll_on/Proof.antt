@@ -49,10 +49,11 @@ one-tick-requires c κs =
     let p : Plan = start .args .p in
     let y : Yard = start .args .y in
     let roll : List ℕ = start .args .roll .now in
-    let k : ℕ = c .before .before .loop .k in
-    (rw (c .before .before .loop .inv .1)
-    (ready p (after p y roll k) (start .pre .0 .0) (after-keeps-form p y roll (start .pre .0 .0) (start .pre .0 .1) k)),
-    c .before .before .before .terms-of .ensures)
+    let k : ℕ = c .before .before .loop .k in (
+      rw (c .before .before .loop .inv .1)
+          (ready p (after p y roll k) (start .pre .0 .0) (after-keeps-form p y roll (start .pre .0 .0) (start .pre .0 .1) k)),
+      c .before .before .before .terms-of .ensures,
+    )
 
 engaged-byte-requires : tie.Need-engaged-byte-requires Inv-loop μ-loop
 engaged-byte-requires c κs =
@@ -79,12 +80,13 @@ loop-again c =
     let inv = c .before .before .before .before .before .before .loop .inv in
     let one = c .before .before .before .one-tick .ensures in
     let yard = next-yard p y roll buffer k _ _ _ (inv .1) (c .before .before .before .before .record-at .ensures) (one .0) in
-    let byte = rw (c .before .before .before .before .before .before .before .terms-of .ensures) at (c .engaged-byte .ensures) in
-    (omega arith,
-    yard,
-    next-down p y roll buffer k _ (c .before .before .before .one-tick .result .yard) _ (inv .1) (c .before .before .before .before .record-at .ensures) _ (one .1),
-    next-bytes p y roll buffer k _ _ _ (inv .3) yard byte (omega arith),
-    length-set (c .before .before .before .before .before .before .loop .engaged) k (c .engaged-byte .result) ∙ inv .4)
+    let byte = rw (c .before .before .before .before .before .before .before .terms-of .ensures) at (c .engaged-byte .ensures) in (
+      omega arith,
+      yard,
+      next-down p y roll buffer k _ (c .before .before .before .one-tick .result .yard) _ (inv .1) (c .before .before .before .before .record-at .ensures) _ (one .1),
+      next-bytes p y roll buffer k _ _ _ (inv .3) yard byte (omega arith),
+      length-set (c .before .before .before .before .before .before .loop .engaged) k (c .engaged-byte .result) ∙ inv .4,
+    )
 
 same-length : tie.Need-same-length Inv-loop μ-loop
 same-length c = c .before .loop .inv .4

@@ -42,7 +42,7 @@ returns c =
     let roll : List ℕ = c .before .before .before .before .before .before .args .roll .now in
     let k : ℕ = c .before .before .before .before .loop .k in
     let here : bad p roll k ≡ true =
-        ap not (sym (rw (c .before .before .record-at .ensures) at (c .before .valid-record .ensures))) ∙ c .if1 .taken in
+    ap not (sym (rw (c .before .before .record-at .ensures) at (c .before .valid-record .ensures))) ∙ c .if1 .taken in
     sym (lowest-is (bad p roll) (length roll / 4) k (omega arith) here (c .before .before .before .before .loop .inv .1))
 
 add-k : tie.Need-add-k Inv-loop μ-loop
@@ -57,7 +57,7 @@ loop-again c =
     let roll : List ℕ = c .before .before .before .before .before .before .args .roll .now in
     let k : ℕ = c .before .before .before .before .loop .k in
     let here : bad p roll k ≡ false =
-        ap not (sym (rw (c .before .before .record-at .ensures) at (c .before .valid-record .ensures))) ∙ c .if1 .left in
+    ap not (sym (rw (c .before .before .record-at .ensures) at (c .before .valid-record .ensures))) ∙ c .if1 .left in
     (omega arith, below-more _ k (c .before .before .before .before .loop .inv .1) here)
 
 returns-2 : tie.Need-returns-2 Inv-loop μ-loop

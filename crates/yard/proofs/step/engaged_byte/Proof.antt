@@ -49,11 +49,12 @@ loop-less c = search needs
 
 loop-again : tie.Need-loop-again Inv-loop μ-loop
 loop-again c =
-    let inv = c .before .before .before .before .loop .inv in
-    (omega arith,
-    c .with-bit .ensures
-    ∙ byte-next (c .before .before .before .before .before .args .t2) (c .before .before .before .before .loop .k) _ _ _ (inv .1) (inv .2) (c .before .is-engaged .ensures),
-    power-next (c .before .before .before .before .loop .k) _ (inv .2))
+    let inv = c .before .before .before .before .loop .inv in (
+      omega arith,
+      c .with-bit .ensures
+          ∙ byte-next (c .before .before .before .before .before .args .t2) (c .before .before .before .before .loop .k) _ _ _ (inv .1) (inv .2) (c .before .is-engaged .ensures),
+      power-next (c .before .before .before .before .loop .k) _ (inv .2),
+    )
 
 cast-result : tie.Need-cast-result Inv-loop μ-loop
 cast-result c = omega (arith, byte-small (c .before .before .args .t2) (c .before .loop .k) (omega arith))

@@ -72,13 +72,14 @@ loop-again c =
     let f : ℕ → Device → Device = risenBy (c .before .before .before .before .before .before .args .q) (c .before .before .before .before .before .before .args .n) (c .before .before .before .before .before .before .args .t3) (c .before .before .before .before .before .before .args .command) in
     let ds : List Device = c .before .before .before .before .before .before .args .devices in
     let k : ℕ = c .before .before .before .before .before .loop .k in
-    let inv : c .before .before .before .before .before .loop .now ≡ sweep k f ds = c .before .before .before .before .before .loop .inv .1 in
-    (omega arith,
-    rw inv
-    (sweep-next f ds k (c .moved .result) (omega arith)
-    (c .moved .ensures
-    ∙ rw (c .before .clocked .ensures, inv, sweep-here f ds k (omega arith))
-    (sym (risen-at (c .before .before .before .before .before .before .args .q) (c .before .before .before .before .before .before .args .n) (c .before .before .before .before .before .before .args .t3) (c .before .before .before .before .before .before .args .command) k (getD ds k freshDevice))))))
+    let inv : c .before .before .before .before .before .loop .now ≡ sweep k f ds = c .before .before .before .before .before .loop .inv .1 in (
+      omega arith,
+      rw inv
+          (sweep-next f ds k (c .moved .result) (omega arith)
+          (c .moved .ensures
+          ∙ rw (c .before .clocked .ensures, inv, sweep-here f ds k (omega arith))
+          (sym (risen-at (c .before .before .before .before .before .before .args .q) (c .before .before .before .before .before .before .args .n) (c .before .before .before .before .before .before .args .t3) (c .before .before .before .before .before .before .args .command) k (getD ds k freshDevice))))),
+    )
 
 returns : tie.Need-returns Inv-loop μ-loop
 returns c =

@@ -68,13 +68,14 @@ loop-again c =
     let f : ℕ → Device → Device = settledBy (c .before .before .before .before .before .before .args .t2) (c .before .before .before .before .before .before .args .lost) (c .before .before .before .before .before .before .args .willing) (c .before .before .before .before .before .before .args .l) in
     let ds : List Device = c .before .before .before .before .before .before .args .devices in
     let k : ℕ = c .before .before .before .before .before .loop .k in
-    let inv : c .before .before .before .before .before .loop .now ≡ sweep k f ds = c .before .before .before .before .before .loop .inv .1 in
-    (omega arith,
-    rw inv
-    (sweep-next f ds k (c .settled .result) (omega arith)
-    (c .settled .ensures
-    ∙ rw (c .before .before .before .bit .ensures, inv, sweep-here f ds k (omega arith))
-    (sym (settled-at (c .before .before .before .before .before .before .args .t2) (c .before .before .before .before .before .before .args .lost) (c .before .before .before .before .before .before .args .willing) (c .before .before .before .before .before .before .args .l) k (getD ds k freshDevice))))))
+    let inv : c .before .before .before .before .before .loop .now ≡ sweep k f ds = c .before .before .before .before .before .loop .inv .1 in (
+      omega arith,
+      rw inv
+          (sweep-next f ds k (c .settled .result) (omega arith)
+          (c .settled .ensures
+          ∙ rw (c .before .before .before .bit .ensures, inv, sweep-here f ds k (omega arith))
+          (sym (settled-at (c .before .before .before .before .before .before .args .t2) (c .before .before .before .before .before .before .args .lost) (c .before .before .before .before .before .before .args .willing) (c .before .before .before .before .before .before .args .l) k (getD ds k freshDevice))))),
+    )
 
 returns : tie.Need-returns Inv-loop μ-loop
 returns c =
