@@ -129,6 +129,7 @@ fn in_lease(
     requires { ⌜ i < t .N ⌝ }
     ensures { λ r. ⌜ r ≡ step3.inLease t approved last own i clock lease ⌝ }
 {
+    let waited = clock == t.W;
     if !approved {
         return aborts(i, lease);
     }
@@ -141,7 +142,7 @@ fn in_lease(
     if same_letter(own, Letter::Deny) {
         return cancels_below(i, lease);
     }
-    if clock == t.W {
+    if waited {
         return cancels(i, lease);
     }
     stays(Base::Lease(i), clock, lease)

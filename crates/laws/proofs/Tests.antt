@@ -189,3 +189,7 @@ module _ (test : ℕ → Bool) where
       let k : ℕ = lowest test n in
       let most : k ≤ n = lowest-most n in
       case (ltb k n) (λ s. clash (lowest-holds n (ltb-true _ _ s)) (none k (ltb-true _ _ s))) (λ s. omega tests)
+
+-- What is fixed by an equation is fixed: two answers that one definition gives are the same.
+pub determined {ℓ} : {A : Type ℓ} {x r s : A} → r ≡ x → s ≡ x → r ≡ s
+determined p q = p ∙ sym q

@@ -1,3 +1,4 @@
 pub mod Least
 pub mod Lines
 pub mod Verdict
+pub mod Determined

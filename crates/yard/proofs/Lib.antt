@@ -4,3 +4,4 @@ pub mod OneTick
 pub mod Ready
 pub mod Loop
 pub mod Answers
+pub mod Determined

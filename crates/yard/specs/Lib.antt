@@ -2,3 +2,4 @@ pub mod Sweep
 pub mod Ready
 pub mod Sent
 pub mod Refusals
+pub mod Determined

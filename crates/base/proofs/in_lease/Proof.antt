@@ -1,4 +1,3 @@
-use borrow.Author.Tests.{eq-eqb, ne-eqb}
 use mathlib.Core.Path.{sym, _∙_}
 use Rattle.rules.specs.Tick.Step3.{inLease}
 use borrow.Author.Needs.{needs}
@@ -47,14 +46,14 @@ cancels-requires-2 c κs = search needs
 
 returns-5 : tie.Need-returns-5
 unfolding inLease
-returns-5 c = rw (c .before .before .before .before .before .before .before .before .before .if1 .left, sym (c .before .before .before .before .before .before .before .before .same-letter .ensures) ∙ c .before .before .before .before .before .before .before .if2 .left, sym (c .before .before .before .before .before .before .same-letter2 .ensures) ∙ c .before .before .before .before .before .if3 .left, sym (c .before .before .before .before .same-letter3 .ensures) ∙ c .before .before .before .if4 .left, eq-eqb _ _ (c .before .if5 .taken)) (c .cancels2 .ensures)
+returns-5 c = rw (c .before .before .before .before .before .before .before .before .if1 .left, sym (c .before .before .before .before .before .before .before .same-letter .ensures) ∙ c .before .before .before .before .before .before .if2 .left, sym (c .before .before .before .before .before .same-letter2 .ensures) ∙ c .before .before .before .before .if3 .left, sym (c .before .before .before .same-letter3 .ensures) ∙ c .before .before .if4 .left, c .before .if5 .taken) (c .cancels2 .ensures)
 
 stays-requires : tie.Need-stays-requires
 stays-requires c κs = search needs
 
 returns-6 : tie.Need-returns-6
 unfolding inLease
-returns-6 c = rw (c .before .before .before .before .before .before .before .before .before .if1 .left, sym (c .before .before .before .before .before .before .before .before .same-letter .ensures) ∙ c .before .before .before .before .before .before .before .if2 .left, sym (c .before .before .before .before .before .before .same-letter2 .ensures) ∙ c .before .before .before .before .before .if3 .left, sym (c .before .before .before .before .same-letter3 .ensures) ∙ c .before .before .before .if4 .left, ne-eqb _ _ (c .before .if5 .left)) (c .stays .ensures)
+returns-6 c = rw (c .before .before .before .before .before .before .before .before .if1 .left, sym (c .before .before .before .before .before .before .before .same-letter .ensures) ∙ c .before .before .before .before .before .before .if2 .left, sym (c .before .before .before .before .before .same-letter2 .ensures) ∙ c .before .before .before .before .if3 .left, sym (c .before .before .before .same-letter3 .ensures) ∙ c .before .before .if4 .left, c .before .if5 .left) (c .stays .ensures)
 
 pub in-lease-spec : {M : Type 1} → statement M
 in-lease-spec =
