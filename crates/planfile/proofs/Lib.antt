@@ -1,1 +1,3 @@
+pub mod Trailers
 pub mod Slots
+pub mod Files

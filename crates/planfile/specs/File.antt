@@ -87,8 +87,7 @@ trailerVerdict len t =
 
 -- Of a body for n devices: 19, then 2 to 9 as the plan check has them. N is 2 to 8 there, so 1 never comes.
 unfoldable pub bodyVerdict : ℕ → List ℕ → Verdict
-bodyVerdict n body =
-    firstRefusal (refusedIf (not (eqb (num16 body 0) n)) 19 0 ∷ planVerdict (planIn n body) ∷ [])
+bodyVerdict n body = firstOf (refusedIf (not (eqb (num16 body 0) n)) 19 0) (planVerdict (planIn n body))
 
 abbrev pub fileVerdict : List ℕ → Verdict
 fileVerdict file =

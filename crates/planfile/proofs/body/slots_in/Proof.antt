@@ -8,10 +8,6 @@ use Rattle.planfile.specs.File.{slotIn, slotsIn, emptyPlan}
 use Rattle.planfile.proofs.Slots.{none-read, next-read}
 use Rattle.planfile.proofs.body.slots_in.Statement.{statement}
 use Rattle.planfile.proofs.body.slots_in.Tie as tie
-use Rattle.planfile.proofs.body.slots_in.Reads as reads
-use Rattle.planfile.proofs.body.slots_in.Lts as lts
-use Rattle.planfile.proofs.body.slot_at.Reads as slot-at-reads
-use Rattle.planfile.proofs.empty_plan.Reads as empty-plan-reads
 
 abbrev Inv-loop : tie.InvT-loop
 Inv-loop body n slots₀ k₀ slots k = (k ≤ n) × (slots ≡ slotsIn k body)
