@@ -41,9 +41,9 @@ module _
     is-the-trailer : t ≡ trailerOf file
     is-the-trailer = was-read ∙ ap trailerIn (part-to-end file (length file - 10))
 
-    pub trailer-refused : (k i : ℕ) → v ≡ Refused k i → answerOf (Refused k i) emptyPlan ≡ readAnswer file
+    pub trailer-refused : {k i : ℕ} → v ≡ Refused k i → answerOf v emptyPlan ≡ readAnswer file
     unfolding readAnswer answerOf
-    trailer-refused k i e = rw (← is-the-trailer, sym was-judged ∙ e)
+    trailer-refused e = rw (← is-the-trailer, ← was-judged, e)
 
     -- Where it is taken, the body lies within the file, and has the bytes of n devices.
     module _ (taken : v ≡ Accepted) where
@@ -81,7 +81,7 @@ module _
             → answerOf (bodyVerdict n body) (planIn n body) ≡ readAnswer file
         unfolding readAnswer
         trailer-taken body e =
-            rw (← is-the-trailer, sym was-judged ∙ taken, e, is-the-body, n-is)
+            rw (← is-the-trailer, ← was-judged, taken, e, is-the-body, n-is)
 
 -- The plan p was read from a body for n devices.
 module _ (n : ℕ) (body : List ℕ) (p : Plan) (was-read : p ≡ planIn n body) where

@@ -136,15 +136,10 @@ pub fn read(file: &[u8]) -> ReadAnswer
     let last = len - 10;
     let t = read_trailer(&file[last..]);
     let v = judge(len, t);
-    match v {
-        Verdict::Accepted => {
-            let start = len - t.back as usize;
-            let end = start + t.size as usize;
-            body::read_body(&file[start..end], devices_for(t.size))
-        }
-        Verdict::Refused { number, index } => answer(
-            Verdict::Refused { number, index },
-            empty_plan(),
-        ),
-    }
+    let Verdict::Accepted = v else {
+        return answer(v, empty_plan());
+    };
+    let start = len - t.back as usize;
+    let end = start + t.size as usize;
+    body::read_body(&file[start..end], devices_for(t.size))
 }

@@ -37,6 +37,21 @@ judge-requires c κs = search needs
 enum-told : tie.Need-enum-told
 enum-told c = search needs
 
+enum-told-2 : tie.Need-enum-told-2
+enum-told-2 c = search needs
+
+empty-plan-requires-2 : tie.Need-empty-plan-requires-2
+empty-plan-requires-2 c κs = search needs
+
+answer-requires-2 : tie.Need-answer-requires-2
+answer-requires-2 c κs = search needs
+
+returns-2 : tie.Need-returns-2
+returns-2 c =
+    c .answer2 .ensures
+    ∙ rw (c .before .empty-plan2 .ensures)
+    (trailer-refused (c .before .before .before .before .before .before .before .before .before .args .file .now) (c .before .before .before .before .before .read-trailer .result) (c .before .before .before .before .judge .result) (c .before .before .before .before .before .read-trailer .ensures) (c .before .before .before .before .judge .ensures) (c .before .before .enum-told2 .given .1))
+
 cast-start : tie.Need-cast-start
 cast-start c = search needs
 
@@ -67,25 +82,10 @@ read-body-requires : tie.Need-read-body-requires
 read-body-requires c κs =
     devices-fit (c .before .before .before .before .before .before .before .before .before .before .before .args .file .now) (c .before .before .before .before .before .before .before .read-trailer .result) (c .before .before .before .before .before .before .judge .result) (c .before .before .before .before .before .before .before .read-trailer .ensures) (c .before .before .before .before .before .before .judge .ensures) (c .before .before .before .before .enum-told .given .1) (c .devices-for .result) (c .devices-for .ensures)
 
-enum-known-v : tie.Need-enum-known-v
-enum-known-v c = search needs
-
-empty-plan-requires-2 : tie.Need-empty-plan-requires-2
-empty-plan-requires-2 c κs = search needs
-
-answer-requires-2 : tie.Need-answer-requires-2
-answer-requires-2 c κs = search needs
-
-returns-2 : tie.Need-returns-2
-returns-2 c =
-    c .read-body .ensures
-    ∙ trailer-taken (c .before .before .before .before .before .before .before .before .before .before .before .before .args .file .now) (c .before .before .before .before .before .before .before .before .read-trailer .result) (c .before .before .before .before .before .before .before .judge .result) (c .before .before .before .before .before .before .before .before .read-trailer .ensures) (c .before .before .before .before .before .before .before .judge .ensures) (c .before .before .before .before .before .enum-told .given .1) (c .before .devices-for .result) (c .before .devices-for .ensures) _ refl
-
 returns-3 : tie.Need-returns-3
 returns-3 c =
-    c .answer2 .ensures
-    ∙ rw (c .before .empty-plan2 .ensures)
-    (trailer-refused (c .before .before .before .before .before .before .before .before .before .before .args .file .now) (c .before .before .before .before .before .before .read-trailer .result) (c .before .before .before .before .before .judge .result) (c .before .before .before .before .before .before .read-trailer .ensures) (c .before .before .before .before .before .judge .ensures) _ _ (c .before .before .before .v .given .1))
+    c .read-body .ensures
+    ∙ trailer-taken (c .before .before .before .before .before .before .before .before .before .before .before .before .args .file .now) (c .before .before .before .before .before .before .before .before .read-trailer .result) (c .before .before .before .before .before .before .before .judge .result) (c .before .before .before .before .before .before .before .before .read-trailer .ensures) (c .before .before .before .before .before .before .before .judge .ensures) (c .before .before .before .before .before .enum-told .given .1) (c .before .devices-for .result) (c .before .devices-for .ensures) _ refl
 
 pub read-spec : {M : Type 1} → statement M
 read-spec =
@@ -101,6 +101,10 @@ read-spec =
     read-trailer-requires
     judge-requires
     enum-told
+    enum-told-2
+    empty-plan-requires-2
+    answer-requires-2
+    returns-2
     cast-start
     sub-start
     cast-end
@@ -110,8 +114,4 @@ read-spec =
     part-read-body-end
     devices-for-requires
     read-body-requires
-    enum-known-v
-    empty-plan-requires-2
-    answer-requires-2
-    returns-2
     returns-3)
