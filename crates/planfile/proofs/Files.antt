@@ -9,7 +9,6 @@ use lib.ListN.{length, take, drop, length-drop}
 use lib.Seq.{length-take-le}
 use borrow.Author.Tests.{lt-ltb, eq-eqb, ne-eqb}
 use borrow.Rule.Slice.PartAt.{part-to-end}
-use Rattle.rules.specs.declared.Plan.{Plan}
 use Rattle.rules.specs.declared.Verdict.{Verdict}
 use Rattle.rules.specs.declared.Verdict.the-variants.{Accepted, Refused}
 use Rattle.rules.specs.Verdict.{refusedIf, firstRefusal}
@@ -83,19 +82,16 @@ module _
         trailer-taken body e =
             rw (← is-the-trailer, ← was-judged, taken, e, is-the-body, n-is)
 
--- The plan p was read from a body for n devices.
-module _ (n : ℕ) (body : List ℕ) (p : Plan) (was-read : p ≡ planIn n body) where
-  named : num16 body 0 ≡ p .N
-  unfolding planIn
-  named = rw was-read
-
-  pub body-refused : (p .N ≡ n → ⊥) → answerOf (Refused 19 0) p ≡ answerOf (bodyVerdict n body) (planIn n body)
+-- N, as the body for n devices names it.
+module _ (n : ℕ) (body : List ℕ) (N : ℕ) (was-read : N ≡ num16 body 0) where
+  pub body-refused : (N ≡ n → ⊥) → answerOf (Refused 19 0) emptyPlan ≡ answerOf (bodyVerdict n body) (planIn n body)
   unfolding answerOf bodyVerdict
-  body-refused ne = rw (ne-eqb (num16 body 0) n (λ e. ne (sym named ∙ e)))
+  body-refused ne = rw (ne-eqb (num16 body 0) n (λ e. ne (was-read ∙ e)))
 
-  pub body-checked : p .N ≡ n → answerOf (planVerdict p) p ≡ answerOf (bodyVerdict n body) (planIn n body)
+  pub body-checked :
+      N ≡ n → answerOf (planVerdict (planIn n body)) (planIn n body) ≡ answerOf (bodyVerdict n body) (planIn n body)
   unfolding bodyVerdict
-  body-checked e = rw (was-read, eq-eqb (num16 body 0) n (named ∙ e))
+  body-checked e = rw (eq-eqb (num16 body 0) n (sym was-read ∙ e))
 
 body-accepted : (n : ℕ) (body : List ℕ) → bodyVerdict n body ≡ Accepted → planVerdict (planIn n body) ≡ Accepted
 unfolding bodyVerdict

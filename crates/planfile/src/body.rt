@@ -58,9 +58,10 @@ pub(crate) fn read_body(body: &[u8], n: u16) -> ReadAnswer
     requires { ⌜ (n ≤ 8) × (length (now body) ≡ 8 + 12 * n) ⌝ }
     ensures { λ r. ⌜ r ≡ answerOf (bodyVerdict n (now (body .entry))) (planIn n (now (body .entry))) ⌝ }
 {
-    let plan = plan_in(body, n as usize);
-    if plan.N != n {
-        return answer(refusal(19), plan);
+    let named = two_bytes(body, 0);
+    if named != n {
+        return answer(refusal(19), empty_plan());
     }
+    let plan = plan_in(body, n as usize);
     answer(plan::check(plan), plan)
 }

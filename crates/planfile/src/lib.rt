@@ -63,11 +63,15 @@ pub(crate) fn empty_plan() -> Plan
 pub(crate) fn answer(v: Verdict, plan: Plan) -> ReadAnswer
     ensures { λ r. ⌜ r ≡ answerOf v plan ⌝ }
 {
+    let empty = empty_plan();
     match v {
         Verdict::Accepted => ReadAnswer { verdict: v, plan },
-        Verdict::Refused { number, index } => ReadAnswer {
-            verdict: Verdict::Refused { number, index },
-            plan: empty_plan(),
+        Verdict::Refused {
+            number: _,
+            index: _,
+        } => ReadAnswer {
+            verdict: v,
+            plan: empty,
         },
     }
 }
@@ -139,7 +143,9 @@ pub fn read(file: &[u8]) -> ReadAnswer
     let Verdict::Accepted = v else {
         return answer(v, empty_plan());
     };
-    let start = len - t.back as usize;
-    let end = start + t.size as usize;
+    let size = t.size as usize;
+    let back = t.back as usize;
+    let start = len - back;
+    let end = start + size;
     body::read_body(&file[start..end], devices_for(t.size))
 }

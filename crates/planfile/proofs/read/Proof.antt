@@ -1,4 +1,5 @@
 use mathlib.Core.Path.{refl, _∙_}
+use native.Mathlib.Omega.{arith}
 use Rattle.planfile.proofs.Files.{short-refused, trailer-refused, starts-within, ends-within, devices-fit, trailer-taken}
 use borrow.Author.Needs.{needs}
 use Rattle.planfile.proofs.read.Statement.{statement}
@@ -52,15 +53,15 @@ returns-2 c =
     ∙ rw (c .before .empty-plan2 .ensures)
     (trailer-refused (c .before .before .before .before .before .before .before .before .before .args .file .now) (c .before .before .before .before .before .read-trailer .result) (c .before .before .before .before .judge .result) (c .before .before .before .before .before .read-trailer .ensures) (c .before .before .before .before .judge .ensures) (c .before .before .enum-told2 .given .1))
 
-cast-start : tie.Need-cast-start
-cast-start c = search needs
+cast-size : tie.Need-cast-size
+cast-size c = search needs
+
+cast-back : tie.Need-cast-back
+cast-back c = search needs
 
 sub-start : tie.Need-sub-start
 sub-start c =
-    starts-within (c .before .before .before .before .before .before .before .before .args .file .now) (c .before .before .before .before .read-trailer .result) (c .before .before .before .judge .result) (c .before .before .before .before .read-trailer .ensures) (c .before .before .before .judge .ensures) (c .before .enum-told .given .1)
-
-cast-end : tie.Need-cast-end
-cast-end c = search needs
+    omega (arith, starts-within (c .before .before .before .before .before .before .before .before .before .args .file .now) (c .before .before .before .before .before .read-trailer .result) (c .before .before .before .before .judge .result) (c .before .before .before .before .before .read-trailer .ensures) (c .before .before .before .before .judge .ensures) (c .before .before .enum-told .given .1))
 
 add-end : tie.Need-add-end
 add-end c = search needs
@@ -73,7 +74,7 @@ part-read-body-start c = search needs
 
 part-read-body-end : tie.Need-part-read-body-end
 part-read-body-end c =
-    ends-within (c .before .before .before .before .before .before .before .before .before .args .file .now) (c .before .before .before .before .before .read-trailer .result) (c .before .before .before .before .judge .result) (c .before .before .before .before .before .read-trailer .ensures) (c .before .before .before .before .judge .ensures) (c .before .before .enum-told .given .1)
+    omega (arith, ends-within (c .before .before .before .before .before .before .before .before .before .args .file .now) (c .before .before .before .before .before .read-trailer .result) (c .before .before .before .before .judge .result) (c .before .before .before .before .before .read-trailer .ensures) (c .before .before .before .before .judge .ensures) (c .before .before .enum-told .given .1))
 
 devices-for-requires : tie.Need-devices-for-requires
 devices-for-requires c κs = search needs
@@ -105,9 +106,9 @@ read-spec =
     empty-plan-requires-2
     answer-requires-2
     returns-2
-    cast-start
+    cast-size
+    cast-back
     sub-start
-    cast-end
     add-end
     sub-read-body
     part-read-body-start
