@@ -65,9 +65,11 @@ module _
         right-number = n-is ∙ ap devicesFor (holds .devices .3) ∙ devices-back (holds .devices .0)
 
         pub devices-fit :
-            (n ≤ 8)
+            (2 ≤ n)
+            × (n ≤ 8)
             × (length (partOf file (length file - t .back) (length file - t .back + t .size)) ≡ 8 + 12 * n)
         devices-fit = (
+          rw right-number (holds .devices .1),
           rw right-number (holds .devices .2),
           ap length is-the-body
               ∙ length-take-le (t .size) (drop (length file - t .back) file)

@@ -29,7 +29,7 @@ trailerOf file = trailerIn (lastTen file)
 
 -- The bytes 59 50 hex, as a number.
 abbrev pub theMark : ℕ
-theMark = 89 + 256 * 80
+theMark = 0x59 + 256 * 0x50
 
 -- The body starts wherever the trailer says.
 abbrev pub bodyAt : Trailer → List ℕ → List ℕ

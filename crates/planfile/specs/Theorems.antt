@@ -2,7 +2,7 @@
 -- name that stands beside it.
 use Prim.Native.Nat.{ℕ, _+_, _-_, _*_, _≤_, _<_}
 use mathlib.Core.Path.{_≡_}
-use mathlib.Core.Logic.{_↔_}
+use mathlib.Core.Logic.{_↔_, _⊎_}
 use mathlib.Core.List.{List}
 use lib.ListN.{length}
 use Rattle.rules.specs.declared.Verdict.the-variants.{Accepted, Refused}
@@ -10,6 +10,7 @@ use Rattle.rules.specs.Plan.{slot, emptySlot}
 use Rattle.rules.specs.Table.{planVerdict}
 use Rattle.planfile.specs.declared.Trailer.{Trailer}
 use Rattle.planfile.specs.declared.ReadAnswer.{ReadAnswer}
+use Rattle.planfile.specs.Worked.{bare, noted, readsP}
 use Rattle.planfile.specs.File.{lastTen, theMark, bodyOf, slotIn, planIn, emptyPlan, trailerVerdict, readAnswer}
 
 -- What is asked of a trailer in a file of len bytes, in the order of the refusals.
@@ -42,6 +43,12 @@ ReadAccepts =
     → (planVerdict (readAnswer file .plan) ≡ Accepted)
     × ((i : ℕ) → readAnswer file .plan .N < i → i ≤ 8 → slot (readAnswer file .plan) i ≡ emptySlot)
 
+-- A file is refused with 14 to 19, index 0, or as the plan check refuses, with 2 to 9: 1 never comes (`refused-numbers`).
+abbrev pub RefusedNumbers : Type 0
+RefusedNumbers =
+    (file : List ℕ) (k i : ℕ) → readAnswer file .verdict ≡ Refused k i
+    → ((14 ≤ k) × (k ≤ 19) × (i ≡ 0)) ⊎ ((2 ≤ k) × (k ≤ 9))
+
 -- A refused file gives an all-zero plan (`refused-empty`).
 abbrev pub RefusedEmpty : Type 0
 RefusedEmpty = (file : List ℕ) (k i : ℕ) → readAnswer file .verdict ≡ Refused k i → readAnswer file .plan ≡ emptyPlan
@@ -50,6 +57,10 @@ RefusedEmpty = (file : List ℕ) (k i : ℕ) → readAnswer file .verdict ≡ Re
 abbrev pub NotesFree : Type 0
 NotesFree =
     (f g : List ℕ) → length f ≡ length g → lastTen f ≡ lastTen g → bodyOf f ≡ bodyOf g → readAnswer f ≡ readAnswer g
+
+-- Plan P is read from a file without notes, and from one with notes before and after the body (`worked-files`).
+abbrev pub WorkedFiles : Type 0
+WorkedFiles = (readAnswer bare ≡ readsP) × (readAnswer noted ≡ readsP)
 
 -- Any two results that the reader's contract allows are equal (`one-answer`).
 abbrev pub OneAnswer : Type 0

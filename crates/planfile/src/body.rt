@@ -27,7 +27,7 @@ fn slot_at(body: &[u8], at: usize) -> Slot
 
 // The slots of n devices; those above n stay all zero.
 fn slots_in(body: &[u8], n: usize) -> [Slot; 8]
-    requires { ⌜ (n ≤ 8) × (length (now body) ≡ 8 + 12 * n) ⌝ }
+    requires { ⌜ (2 ≤ n) × (n ≤ 8) × (length (now body) ≡ 8 + 12 * n) ⌝ }
     ensures { λ r. ⌜ r ≡ slotsIn n (now (body .entry)) ⌝ }
 {
     let empty = empty_plan();
@@ -41,7 +41,7 @@ fn slots_in(body: &[u8], n: usize) -> [Slot; 8]
 }
 
 fn plan_in(body: &[u8], n: usize) -> Plan
-    requires { ⌜ (n ≤ 8) × (length (now body) ≡ 8 + 12 * n) ⌝ }
+    requires { ⌜ (2 ≤ n) × (n ≤ 8) × (length (now body) ≡ 8 + 12 * n) ⌝ }
     ensures { λ r. ⌜ r ≡ planIn n (now (body .entry)) ⌝ }
 {
     Plan {
@@ -55,7 +55,7 @@ fn plan_in(body: &[u8], n: usize) -> Plan
 
 // The verdict on a body that has room for n devices, beside its plan.
 pub(crate) fn read_body(body: &[u8], n: u16) -> ReadAnswer
-    requires { ⌜ (n ≤ 8) × (length (now body) ≡ 8 + 12 * n) ⌝ }
+    requires { ⌜ (2 ≤ n) × (n ≤ 8) × (length (now body) ≡ 8 + 12 * n) ⌝ }
     ensures { λ r. ⌜ r ≡ answerOf (bodyVerdict n (now (body .entry))) (planIn n (now (body .entry))) ⌝ }
 {
     let named = two_bytes(body, 0);
