@@ -1,7 +1,7 @@
 -- What a file is answered, by its length, its trailer and its body; and what is true of every answer.
 use Prim.Native.Nat.{ℕ, _+_, _-_, _*_, _≤_, _<_}
 use native.Mathlib.Omega.{arith}
-use mathlib.Core.Path.{_≡_, refl, sym, _∙_, ap}
+use mathlib.Core.Path.{_≡_, sym, _∙_, ap}
 use mathlib.Core.Bool.{not}
 use mathlib.Core.List.{List}
 use lib.Dec.{eqb}
@@ -17,7 +17,7 @@ use Rattle.rules.proofs.Answers.{first-accepted}
 use Rattle.rules.proofs.Plans.Accepted.{accepted-exactly}
 use Rattle.planfile.specs.declared.Trailer.{Trailer}
 use Rattle.planfile.specs.Bytes.{num16}
-use Rattle.planfile.specs.File.{lastTen, trailerIn, trailerOf, bodyAt, devicesFor, planIn, planOf, emptyPlan, trailerVerdict, bodyVerdict, fileVerdict, answerOf, readAnswer}
+use Rattle.planfile.specs.File.{trailerIn, trailerOf, bodyAt, devicesFor, planIn, planOf, emptyPlan, trailerVerdict, bodyVerdict, fileVerdict, answerOf, readAnswer}
 use Rattle.planfile.specs.Theorems.{TrailerHolds, ReadAccepts, RefusedEmpty, NotesFree, OneAnswer}
 use Rattle.planfile.proofs.Trailers.{devices-back, trailer-holds}
 

@@ -1,17 +1,17 @@
 -- Which numbers a file is refused with.
-use Prim.Native.Nat.{ℕ, zero, suc, _+_, _*_, _≤_, _<_}
+use Prim.Native.Nat.{ℕ, zero, suc, _+_, _≤_}
 use native.Mathlib.Omega.{arith}
 use mathlib.Core.Path.{_≡_, refl, sym, _∙_, ap}
 use mathlib.Core.Logic.{_⊎_, inl, inr}
 use mathlib.Core.Bool.{Bool, true, false, not, _||_}
-use mathlib.Core.List.{List, [], _∷_}
+use mathlib.Core.List.{List}
 use lib.Dec.{leb, ltb, eqb}
 use lib.ListN.{length}
-use borrow.Author.Tests.{eqb-true, leb-true, le-leb, not-false}
+use borrow.Author.Tests.{eqb-true, leb-true, le-leb}
 use Rattle.laws.proofs.Tests.{tests, case, clash, all-of}
 use Rattle.rules.specs.declared.Plan.{Plan}
 use Rattle.rules.specs.declared.Verdict.{Verdict}
-use Rattle.rules.specs.declared.Verdict.the-variants.{Accepted, Refused}
+use Rattle.rules.specs.declared.Verdict.the-variants.{Refused}
 use Rattle.rules.specs.Verdict.{refusedIf, firstOf, firstRefusal}
 use Rattle.rules.specs.Table.{line1, table, broken, planVerdict}
 use Rattle.rules.proofs.Answers.{by-verdict, not-both, refused-if}
@@ -19,7 +19,7 @@ use Rattle.rules.proofs.Plans.Table.{kept, no-line}
 use Rattle.rules.proofs.Plans.Refused.{refused-exactly}
 use Rattle.planfile.specs.declared.Trailer.{Trailer}
 use Rattle.planfile.specs.Bytes.{num16}
-use Rattle.planfile.specs.File.{theMark, trailerOf, bodyAt, devicesFor, isBodySize, planIn, trailerVerdict, bodyVerdict, fileVerdict, answerOf, readAnswer}
+use Rattle.planfile.specs.File.{theMark, trailerOf, bodyAt, devicesFor, isBodySize, planIn, trailerVerdict, bodyVerdict, answerOf, readAnswer}
 use Rattle.planfile.specs.Theorems.{RefusedNumbers}
 use Rattle.planfile.proofs.Trailers.{devices-back, trailer-holds}
 

@@ -1,4 +1,4 @@
-use mathlib.Core.Path.{refl, ap}
+use mathlib.Core.Path.{refl}
 use Rattle.laws.specs.Lists.{tabulate}
 use Rattle.planfile.specs.File.{emptyPlan}
 use Rattle.planfile.proofs.empty_plan.Statement.{statement}

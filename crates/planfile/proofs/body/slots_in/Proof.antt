@@ -1,10 +1,8 @@
-use Prim.Native.Nat.{ℕ, _+_, _-_, _*_, _≤_, _<_}
+use Prim.Native.Nat.{_-_, _≤_}
 use native.Mathlib.Omega.{arith}
-use mathlib.Core.Path.{_≡_, refl, sym, _∙_, ap}
-use mathlib.Core.List.{List}
+use mathlib.Core.Path.{_≡_}
 use borrow.Author.Needs.{needs}
-use Rattle.laws.specs.Lists.{swept}
-use Rattle.planfile.specs.File.{slotIn, slotsIn, emptyPlan}
+use Rattle.planfile.specs.File.{slotsIn}
 use Rattle.planfile.proofs.Slots.{none-read, next-read}
 use Rattle.planfile.proofs.body.slots_in.Statement.{statement}
 use Rattle.planfile.proofs.body.slots_in.Tie as tie
