@@ -1,0 +1,5 @@
+pub mod Trailers
+pub mod Slots
+pub mod Files
+pub mod Numbers
+pub mod Cases

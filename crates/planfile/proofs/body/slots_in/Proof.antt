@@ -1,0 +1,71 @@
+use Prim.Native.Nat.{_-_, _≤_}
+use native.Mathlib.Omega.{arith}
+use mathlib.Core.Path.{_≡_}
+use borrow.Author.Needs.{needs}
+use Rattle.planfile.specs.File.{slotsIn}
+use Rattle.planfile.proofs.Slots.{none-read, next-read}
+use Rattle.planfile.proofs.body.slots_in.Statement.{statement}
+use Rattle.planfile.proofs.body.slots_in.Tie as tie
+
+abbrev Inv-loop : tie.InvT-loop
+Inv-loop body n slots₀ k₀ slots k = (k ≤ n) × (slots ≡ slotsIn k body)
+
+abbrev μ-loop : tie.MeasureT-loop
+μ-loop body n slots₀ k₀ slots k = n - k
+
+empty-plan-requires : tie.Need-empty-plan-requires Inv-loop μ-loop
+empty-plan-requires c κs = search needs
+
+loop-holds : tie.Need-loop-holds Inv-loop μ-loop
+loop-holds c = (search needs, rw (c .before .empty-plan .ensures) (none-read (c .before .before .before .args .body .now)))
+
+mul-slot-at : tie.Need-mul-slot-at Inv-loop μ-loop
+mul-slot-at c = search needs
+
+add-slot-at : tie.Need-add-slot-at Inv-loop μ-loop
+add-slot-at c = search needs
+
+slot-at-requires : tie.Need-slot-at-requires Inv-loop μ-loop
+slot-at-requires c κs = search needs
+
+mul-slots : tie.Need-mul-slots Inv-loop μ-loop
+mul-slots c = search needs
+
+array-set-from-slots : tie.Need-array-set-from-slots Inv-loop μ-loop
+array-set-from-slots c = search needs
+
+add-k : tie.Need-add-k Inv-loop μ-loop
+add-k c = search needs
+
+loop-less : tie.Need-loop-less Inv-loop μ-loop
+loop-less c = search needs
+
+loop-again : tie.Need-loop-again Inv-loop μ-loop
+loop-again c = (
+  search needs,
+  rw (c .before .before .loop .inv .1)
+      (next-read (c .before .before .before .before .before .before .args .body .now) (c .before .before .loop .k) (c .slot-at .result) (omega arith) (c .slot-at .ensures)),
+)
+
+returns : tie.Need-returns Inv-loop μ-loop
+returns c =
+    let all : c .before .loop .k ≡ c .before .before .before .before .before .args .n = omega arith in
+    rw all at (c .before .loop .inv .1)
+
+pub slots-in-spec : {M : Type 1} → statement M
+slots-in-spec =
+    tie.close
+    (tie.spec
+    Inv-loop
+    μ-loop
+    empty-plan-requires
+    loop-holds
+    mul-slot-at
+    add-slot-at
+    slot-at-requires
+    mul-slots
+    array-set-from-slots
+    add-k
+    loop-less
+    loop-again
+    returns)
