@@ -17,7 +17,7 @@ use Rattle.rules.proofs.Answers.{first-accepted}
 use Rattle.rules.proofs.Plans.Accepted.{accepted-exactly}
 use Rattle.planfile.specs.declared.Trailer.{Trailer}
 use Rattle.planfile.specs.Bytes.{num16}
-use Rattle.planfile.specs.File.{trailerIn, trailerOf, bodyAt, devicesFor, planIn, planOf, emptyPlan, trailerVerdict, bodyVerdict, fileVerdict, answerOf, readAnswer}
+use Rattle.planfile.specs.File.{trailerIn, trailerOf, bodyAt, devicesFor, planIn, planOf, emptyPlan, trailerVerdict, bodyVerdict, fileVerdict, answerOf, readAnswer, bodySpan}
 use Rattle.planfile.specs.Theorems.{TrailerHolds, ReadAccepts, RefusedEmpty, NotesFree, OneAnswer}
 use Rattle.planfile.proofs.Trailers.{devices-back, trailer-holds}
 
@@ -28,6 +28,10 @@ partOf l start end = take (end - start) (drop start l)
 pub short-refused : (file : List ℕ) → length file < 10 → answerOf (Refused 14 0) emptyPlan ≡ readAnswer file
 unfolding readAnswer answerOf trailerVerdict firstRefusal
 short-refused file h = rw (lt-ltb (length file) 42 (omega arith))
+
+pub short-span : (file : List ℕ) → length file < 10 → record { start = 0; len = 0 } ≡ bodySpan file
+unfolding bodySpan trailerVerdict firstRefusal
+short-span file h = rw (lt-ltb (length file) 42 (omega arith))
 
 -- The trailer t was read from the file's last ten bytes, and v is the verdict on it.
 module _
@@ -43,6 +47,14 @@ module _
     pub trailer-refused : {k i : ℕ} → v ≡ Refused k i → answerOf v emptyPlan ≡ readAnswer file
     unfolding readAnswer answerOf
     trailer-refused e = rw (← is-the-trailer, ← was-judged, e)
+
+    pub refused-span : {k i : ℕ} → v ≡ Refused k i → record { start = 0; len = 0 } ≡ bodySpan file
+    unfolding bodySpan
+    refused-span e = rw (← is-the-trailer, ← was-judged, e)
+
+    pub taken-span : v ≡ Accepted → record { start = length file - t .back; len = t .size } ≡ bodySpan file
+    unfolding bodySpan
+    taken-span e = rw (← is-the-trailer, ← was-judged, e)
 
     -- Where it is taken, the body lies within the file, and has the bytes of n devices.
     module _ (taken : v ≡ Accepted) where

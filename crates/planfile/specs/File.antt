@@ -14,6 +14,7 @@ use Rattle.rules.specs.Plan.{emptySlot}
 use Rattle.rules.specs.Table.{planVerdict}
 use Rattle.planfile.specs.declared.Trailer.{Trailer}
 use Rattle.planfile.specs.declared.ReadAnswer.{ReadAnswer}
+use Rattle.planfile.specs.declared.Span.{Span}
 use Rattle.planfile.specs.Bytes.{num16, num32}
 
 -- The trailer is the last 10 bytes; of a shorter file, which is refused, all.
@@ -100,3 +101,11 @@ answerOf v p = record { verdict = v; plan = ifAccepted v p emptyPlan }
 
 unfoldable pub readAnswer : List ℕ → ReadAnswer
 readAnswer file = answerOf (fileVerdict file) (planOf file)
+
+-- Where the body lies: from its distance, as long as the trailer says; nothing at 0 where the trailer is not taken.
+unfoldable pub bodySpan : List ℕ → Span
+bodySpan file =
+    let t = trailerOf file in
+    ifAccepted (trailerVerdict (length file) t)
+    (record { start = length file - t .back; len = t .size })
+    (record { start = 0; len = 0 })

@@ -13,7 +13,7 @@ use rules::Verdict;
 ghost use mathlib.Core.Path.{_≡_};
 ghost use lib.ListN.{length};
 ghost use Rattle.rules.specs.declared.Verdict.the-variants as verdict;
-ghost use Rattle.planfile.specs.File.{trailerIn, devicesFor, isBodySize, emptyPlan, trailerVerdict, answerOf, readAnswer};
+ghost use Rattle.planfile.specs.File.{trailerIn, devicesFor, isBodySize, emptyPlan, trailerVerdict, answerOf, readAnswer, bodySpan};
 
 // The last ten bytes of a file: the body's length, the version, the distance back from the file's end to the body, and the
 // two bytes that every plan file ends with.
@@ -22,6 +22,12 @@ pub struct Trailer {
     pub version: u16,
     pub back: u32,
     pub mark: u16,
+}
+
+// A part of a file: where it starts, and how many bytes it has.
+pub struct Span {
+    pub start: usize,
+    pub len: usize,
 }
 
 pub struct ReadAnswer {
@@ -148,4 +154,26 @@ pub fn read(file: &[u8]) -> ReadAnswer
     let start = len - back;
     let end = start + size;
     body::read_body(&file[start..end], devices_for(t.size))
+}
+
+// Where a file's body lies, for whoever wants to show it; nothing at 0 where its trailer is not taken.
+pub fn body_span(file: &[u8]) -> Span
+    ensures { λ r. ⌜ r ≡ bodySpan (now (file .entry)) ⌝ }
+{
+    let len = file.len();
+    if len < 10 {
+        return Span { start: 0, len: 0 };
+    }
+    let last = len - 10;
+    let t = read_trailer(&file[last..]);
+    let v = judge(len, t);
+    let Verdict::Accepted = v else {
+        return Span { start: 0, len: 0 };
+    };
+    let size = t.size as usize;
+    let back = t.back as usize;
+    Span {
+        start: len - back,
+        len: size,
+    }
 }

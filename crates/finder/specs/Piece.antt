@@ -1,0 +1,58 @@
+-- Document 01, "The plan file": the finder hands back the refused piece of whichever is at fault, file or roll, a part of the
+-- lent bytes and nothing else.
+use Prim.Native.Nat.{ℕ, _+_, _-_, _*_, _%_, min}
+use mathlib.Core.Path.{_≡_}
+use mathlib.Core.Bool.{Bool, not, cond}
+use mathlib.Core.List.{List}
+use lib.Dec.{leb, ltb, eqb}
+use lib.ListN.{length, take, drop}
+use denote.Ref.{RefT, now}
+use Rattle.laws.specs.Tests.{lowest}
+use Rattle.rules.specs.declared.Plan.{Plan}
+use Rattle.rules.specs.declared.Verdict.{Verdict}
+use Rattle.rules.specs.declared.Verdict.the-variants.{Accepted, Refused}
+use Rattle.rules.specs.Tick.Input.{validRecord}
+use Rattle.rules.specs.Run.{records, recordAt}
+use Rattle.planfile.specs.File.{bodySpan, readAnswer}
+
+-- A part of the file or of the roll: where it starts, and how many bytes it has.
+pub data Piece : Type 0 where
+  inFile : ℕ → ℕ → Piece
+  inRoll : ℕ → ℕ → Piece
+
+-- The last 10 bytes of the file (all, if shorter) for 14 to 19; the body for 2 to 9.
+unfoldable pub filePiece : List ℕ → ℕ → Piece
+filePiece file number =
+    cond (ltb number 10)
+    (inFile (bodySpan file .start) (bodySpan file .len))
+    (inFile (length file - 10) (min 10 (length file)))
+
+-- The first record of the roll that is not valid, counted from 0; the number of its records where there is none.
+abbrev pub firstBad : Plan → List ℕ → ℕ
+firstBad p roll = lowest (λ k. not (validRecord p (recordAt roll k))) (records roll)
+
+-- The 1 to 3 leftover bytes for 12; the four bytes for 10; otherwise the empty part at the roll's end.
+unfoldable pub rollPiece : Plan → List ℕ → Piece
+rollPiece p roll =
+    cond (not (eqb (length roll % 4) 0))
+    (inRoll (length roll - length roll % 4) (length roll % 4))
+    (cond (ltb (firstBad p roll) (records roll)) (inRoll (4 * firstBad p roll) 4) (inRoll (length roll) 0))
+
+-- The roll is looked at only after the plan has been taken.
+abbrev pub pieceFor : Verdict → Plan → List ℕ → List ℕ → Piece
+pieceFor Accepted p file roll = rollPiece p roll
+pieceFor (Refused k i) p file roll = filePiece file k
+
+unfoldable pub piece : List ℕ → List ℕ → Piece
+piece file roll = pieceFor (readAnswer file .verdict) (readAnswer file .plan) file roll
+
+-- A lent part: r has the n bytes of s from start, and lies just there.
+pub record PartOf (r s : RefT (List ℕ)) (start n : ℕ) : Type 0 where
+  pub bytes : now r ≡ take n (drop start (now s))
+  pub block : r .ptr .0 ≡ s .ptr .0
+  pub place : r .ptr .1 ≡ start + s .ptr .1
+
+-- r is the piece, of whichever of the two it is.
+abbrev pub Lies : RefT (List ℕ) → RefT (List ℕ) → RefT (List ℕ) → Piece → Type 0
+Lies r file roll (inFile start n) = PartOf r file start n
+Lies r file roll (inRoll start n) = PartOf r roll start n
