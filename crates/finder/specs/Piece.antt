@@ -21,27 +21,31 @@ pub data Piece : Type 0 where
   inRoll : ℕ → ℕ → Piece
 
 -- The last 10 bytes of the file (all, if shorter) for 14 to 19; the body for 2 to 9.
-unfoldable pub filePiece : List ℕ → ℕ → Piece
-filePiece file number =
-    cond (ltb number 10)
-    (inFile (bodySpan file .start) (bodySpan file .len))
-    (inFile (length file - 10) (min 10 (length file)))
+unfoldable pub fileStart : List ℕ → ℕ → ℕ
+fileStart file number = cond (ltb number 10) (bodySpan file .start) (length file - 10)
+
+unfoldable pub fileLength : List ℕ → ℕ → ℕ
+fileLength file number = cond (ltb number 10) (bodySpan file .len) (min 10 (length file))
 
 -- The first record of the roll that is not valid, counted from 0; the number of its records where there is none.
 abbrev pub firstBad : Plan → List ℕ → ℕ
 firstBad p roll = lowest (λ k. not (validRecord p (recordAt roll k))) (records roll)
 
 -- The 1 to 3 leftover bytes for 12; the four bytes for 10; otherwise the empty part at the roll's end.
-unfoldable pub rollPiece : Plan → List ℕ → Piece
-rollPiece p roll =
-    cond (not (eqb (length roll % 4) 0))
-    (inRoll (length roll - length roll % 4) (length roll % 4))
-    (cond (ltb (firstBad p roll) (records roll)) (inRoll (4 * firstBad p roll) 4) (inRoll (length roll) 0))
+unfoldable pub rollStart : Plan → List ℕ → ℕ
+rollStart p roll =
+    cond (not (eqb (length roll % 4) 0)) (length roll - length roll % 4)
+    (cond (ltb (firstBad p roll) (records roll)) (4 * firstBad p roll) (length roll))
+
+unfoldable pub rollLength : Plan → List ℕ → ℕ
+rollLength p roll =
+    cond (not (eqb (length roll % 4) 0)) (length roll % 4)
+    (cond (ltb (firstBad p roll) (records roll)) 4 0)
 
 -- The roll is looked at only after the plan has been taken.
 abbrev pub pieceFor : Verdict → Plan → List ℕ → List ℕ → Piece
-pieceFor Accepted p file roll = rollPiece p roll
-pieceFor (Refused k i) p file roll = filePiece file k
+pieceFor Accepted p file roll = inRoll (rollStart p roll) (rollLength p roll)
+pieceFor (Refused k i) p file roll = inFile (fileStart file k) (fileLength file k)
 
 unfoldable pub piece : List ℕ → List ℕ → Piece
 piece file roll = pieceFor (readAnswer file .verdict) (readAnswer file .plan) file roll

@@ -13,7 +13,7 @@ use Rattle.rules.specs.declared.Verdict.{Verdict}
 use Rattle.rules.specs.declared.Verdict.the-variants.{Accepted, Refused}
 use Rattle.rules.specs.Verdict.{refusedIf, firstRefusal}
 use Rattle.rules.specs.Table.{planVerdict}
-use Rattle.rules.proofs.Answers.{first-accepted}
+use Rattle.rules.proofs.Answers.{by-verdict, first-accepted}
 use Rattle.rules.proofs.Plans.Accepted.{accepted-exactly}
 use Rattle.planfile.specs.declared.Trailer.{Trailer}
 use Rattle.planfile.specs.Bytes.{num16}
@@ -134,3 +134,12 @@ notes-free f g same-length same-trailer same-body = rw (same-body, same-trailer,
 
 pub one-answer : OneAnswer
 one-answer file r s r-is s-is = r-is ∙ sym s-is
+
+-- Wherever a body lies, it lies within its file.
+pub span-within : (file : List ℕ) → bodySpan file .start + bodySpan file .len ≤ length file
+unfolding bodySpan
+span-within file =
+    let t : Trailer = trailerOf file in
+    by-verdict (trailerVerdict (length file) t)
+    (λ e. rw e (omega (arith, trailer-holds (length file) t e .body)))
+    (λ k i e. rw e (omega arith))

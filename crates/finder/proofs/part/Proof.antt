@@ -1,28 +1,33 @@
+use Prim.Native.Nat.{ℕ, _+_, _-_}
+use mathlib.Core.List.{List}
+use native.Mathlib.Omega.{arith}
+use mathlib.Core.Path.{_≡_, refl, sym, _∙_, ap}
+use lib.ListN.{take, drop}
 use borrow.Author.Needs.{needs}
 use Rattle.finder.proofs.part.Statement.{statement}
 use Rattle.finder.proofs.part.Tie as tie
 use Rattle.finder.proofs.part.Reads as reads
 use Rattle.finder.proofs.part.Lts as lts
 
--- src/lib.rt:16:15
 add-end : tie.Need-add-end
 add-end c = search needs
 
--- src/lib.rt:17:5
 sub-result : tie.Need-sub-result
 sub-result c = search needs
 
--- src/lib.rt:17:5
 part-result-start : tie.Need-part-result-start
 part-result-start c = search needs
 
--- src/lib.rt:17:5
 part-result-end : tie.Need-part-result-end
 part-result-end c = search needs
 
--- src/lib.rt:12:1
 returns : tie.Need-returns
-returns c = ?
+returns c =
+    let s : List ℕ = c .before .args .s .now in
+    let start : ℕ = c .before .args .start in
+    let n : ℕ = c .before .args .n in
+    let long : start + n - start ≡ n = omega arith in
+    record { bytes = ap (λ (k : ℕ). take k (drop start s)) long; block = refl; place = refl }
 
 pub part-spec : {M : Type 1} → statement M
 part-spec = tie.close (tie.spec add-end sub-result part-result-start part-result-end returns)

@@ -1,0 +1,28 @@
+-- What is proved of the finder's definitions, each under the name that stands beside it.
+use Prim.Native.Nat.{ℕ}
+use mathlib.Core.Path.{_≡_}
+use mathlib.Core.Logic.{_↔_}
+use mathlib.Core.List.{List}
+use lib.ListN.{length}
+use denote.Ref.{RefT, now}
+use Rattle.rules.specs.declared.Verdict.the-variants.{Accepted}
+use Rattle.rules.specs.Run.{lengthVerdict, rollVerdict}
+use Rattle.planfile.specs.File.{readAnswer}
+use Rattle.finder.specs.Piece.{Piece, inRoll, piece, Lies}
+
+-- Any two results that the contract allows have the same bytes at the same place (`find-determined`). What stays free is the
+-- ghost name of the reference, which no program can see.
+abbrev pub FindDetermined : Type 0
+FindDetermined =
+    (r s file roll : RefT (List ℕ)) (p : Piece) → Lies r file roll p → Lies s file roll p
+    → (now r ≡ now s) × (r .ptr .0 ≡ s .ptr .0) × (r .ptr .1 ≡ s .ptr .1)
+
+-- The empty part at the roll's end is handed back exactly when the file is taken and the roll has no fault
+-- (`empty-exactly`).
+abbrev pub EmptyExactly : Type 0
+EmptyExactly =
+    (file roll : List ℕ)
+    → (piece file roll ≡ inRoll (length roll) 0)
+    ↔ ((readAnswer file .verdict ≡ Accepted)
+    × (lengthVerdict roll ≡ Accepted)
+    × (rollVerdict (readAnswer file .plan) roll ≡ Accepted))
