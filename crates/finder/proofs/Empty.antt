@@ -30,9 +30,9 @@ module _ (p : Plan) (roll : List ℕ) where
   faultless =
       case (eqb (length roll % 4) 0)
       (λ q. rw q
-          (case (ltb (firstBad p roll) (records roll))
-          (λ b. rw b (λ e. absurd (omega arith)))
-          (λ b. rw b (λ e. (refl, refl)))))
+      (case (ltb (firstBad p roll) (records roll))
+      (λ b. rw b (λ e. absurd (omega arith)))
+      (λ b. rw b (λ e. (refl, refl)))))
       (λ q. rw q (λ e. absurd (omega tests)))
 
   empty-end :
@@ -46,8 +46,9 @@ pub empty-exactly : EmptyExactly
 unfolding piece sizeOf
 empty-exactly file roll =
     let v : Verdict = readAnswer file .verdict in
-    let p : Plan = readAnswer file .plan in
-    (by-verdict v
-        (λ t. rw t (λ e. let f = faultless p roll (ap sizeOf e) in (refl, f .0, f .1)))
-        (λ k i t. rw t (λ e. absurd (let z : _≡_ {A = ℕ} 1 0 = ap sizeOf e in omega arith))),
-    λ h. rw (h .0) (empty-end p roll (h .1) (h .2)))
+    let p : Plan = readAnswer file .plan in (
+      by-verdict v
+          (λ t. rw t (λ e. let f = faultless p roll (ap sizeOf e) in (refl, f .0, f .1)))
+          (λ k i t. rw t (λ e. absurd (let z : _≡_ {A = ℕ} 1 0 = ap sizeOf e in omega arith))),
+      λ h. rw (h .0) (empty-end p roll (h .1) (h .2)),
+    )

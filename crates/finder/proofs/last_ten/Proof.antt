@@ -13,7 +13,7 @@ part-requires : tie.Need-part-requires
 part-requires c κs = search needs
 
 returns : tie.Need-returns
-returns c = 
+returns c =
     let start : length (c .before .before .before .args .file .now) - 10 ≡ 0 = omega arith in
     let all : min 10 (length (c .before .before .before .args .file .now)) ≡ length (c .before .before .before .args .file .now) = omega arith in
     rw (start, all) (c .part .ensures)
@@ -22,7 +22,7 @@ part-requires-2 : tie.Need-part-requires-2
 part-requires-2 c κs = search needs
 
 returns-2 : tie.Need-returns-2
-returns-2 c = 
+returns-2 c =
     let ten : min 10 (length (c .before .before .before .args .file .now)) ≡ 10 = omega arith in
     rw ten (c .part2 .ensures)
 
