@@ -1,3 +1,5 @@
 pub mod Decimals
 pub mod Writes
 pub mod Fields
+pub mod Rolls
+pub mod Headers

@@ -2,10 +2,11 @@
 use Prim.Native.Nat.{ℕ, zero, suc, _+_, _≤_, _<_}
 use native.Mathlib.Omega.{arith}
 use native.Mathlib.Nat.{add-zero, add-suc, suc-add}
+use native.Mathlib.Numerals.{add-one}
 use mathlib.Core.Path.{_≡_, refl, sym, _∙_, ap}
 use mathlib.Core.List.{List, [], _∷_, _++_}
-use lib.ListN.{length, length-append, take, drop}
-use lib.Seq.{sets, sets-eq, length-sets}
+use lib.ListN.{length, length-append, take, drop, getD, set}
+use lib.Seq.{sets, sets-eq, length-sets, take-suc, take-length}
 use Rattle.listing.specs.Written.{Written}
 
 sets-append : (a b l : List ℕ) (i : ℕ) → sets l i (a ++ b) ≡ sets (sets l i a) (i + length a) b
@@ -29,3 +30,32 @@ as-text b w e = rw e at w
 -- A write leaves the buffer as long as it was.
 pub length-kept : {l x a : List ℕ} {at end : ℕ} → Written l at a x end → length x ≡ length l
 length-kept {l} {x} {a} {at} w = ap length (w .buffer) ∙ length-sets l at a
+
+-- The room that is left behind a write of at most w bytes.
+pub room-after :
+    (w r : ℕ) {l x a : List ℕ} {at end : ℕ} → Written l at a x end → end ≤ at + w → at + (w + r) ≤ length l
+    → end + r ≤ length x
+room-after w r v short h = omega (arith, length-kept v)
+
+-- A text that is written from the front, byte by byte.
+pub next-byte :
+    (text : List ℕ) (k : ℕ) {l m : List ℕ} {at : ℕ} → k < length text → Written l at (take k text) m (at + k)
+    → Written l at (take (k + 1) text) (set m (at + k) (getD text k 0)) (at + (k + 1))
+next-byte text k {l} {m} {at} h w =
+    let one : Written m (at + k) (getD text k 0 ∷ []) (set m (at + k) (getD text k 0)) (at + (k + 1)) =
+    record { buffer = refl; stands = omega arith } in
+    as-text _ (and-then w one) (rw add-one (sym (take-suc text k 0 h)))
+
+pub no-byte : (text l : List ℕ) (at : ℕ) → Written l at (take 0 text) l (at + 0)
+no-byte text l at = record { buffer = refl; stands = omega arith }
+
+pub all-bytes :
+    (text : List ℕ) (k : ℕ) {l m : List ℕ} {at : ℕ} → k ≡ length text → Written l at (take k text) m (at + k)
+    → Written l at text m (at + k)
+all-bytes text k e w = as-text text w (rw e (take-length text))
+
+-- What is written where there is room, as a caller reads it.
+pub as-parts :
+    {l x a : List ℕ} {at end : ℕ} → Written l at a x end → at + length a ≤ length l
+    → x ≡ take at l ++ a ++ drop (at + length a) l
+as-parts {l} {x} {a} {at} w h = w .buffer ∙ sets-eq a l at h

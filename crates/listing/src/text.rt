@@ -20,6 +20,19 @@ pub(crate) fn put(b: u8, out: &mut [u8], at: usize) -> usize
     at + 1
 }
 
+// All of a text.
+pub(crate) fn word(text: &[u8], out: &mut [u8], at: usize) -> usize
+    requires { ⌜ at + length (now text) ≤ length (now out) ⌝ }
+    ensures { λ r. ⌜ Written (now (out .entry)) at (now (text .entry)) (now (out .exit)) r ⌝ }
+{
+    let mut k: usize = 0;
+    while k < text.len() {
+        out[at + k] = text[k];
+        k += 1;
+    }
+    at + k
+}
+
 // A number in decimal. It calls itself for the digits before the last, at most 20 deep.
 pub(crate) fn number(n: usize, out: &mut [u8], at: usize) -> usize
     requires { ⌜ at + length (decimal n) ≤ length (now out) ⌝ }
