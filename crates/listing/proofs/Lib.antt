@@ -3,3 +3,5 @@ pub mod Writes
 pub mod Fields
 pub mod Rolls
 pub mod Headers
+pub mod Cases
+pub mod Theorems
