@@ -1,0 +1,5 @@
+pub mod Text
+pub mod Listing
+pub mod Written
+pub mod Printed
+pub mod Theorems

@@ -1,0 +1,68 @@
+// The lines of a roll, tick after tick.
+use crate::Listed;
+use crate::line::line;
+use rules::Plan;
+use rules::Record;
+use rules::Verdict;
+use rules::Yard;
+ghost use mathlib.Core.Path.{_≡_};
+ghost use mathlib.Core.Bool.{true};
+ghost use Prim.Native.Nat.{ℕ, _+_, _*_, _≤_, _<_};
+ghost use lib.ListN.{length};
+ghost use Rattle.rules.specs.declared.Verdict.the-variants.{Accepted};
+ghost use Rattle.rules.specs.Tick.Input.{validRecord, downLost};
+ghost use Rattle.rules.specs.Run.{records, recordAt};
+ghost use Rattle.listing.specs.Listing.{listVerdict, listAnswer, listBuffer};
+
+// The record at k, counted from 0; callers have seen that the roll has it.
+fn record_at(roll: &[u8], k: usize) -> Record
+    requires { ⌜ 4 * k + 4 ≤ length (now roll) ⌝ }
+    ensures { λ r. ⌜ r ≡ recordAt (now (roll .entry)) k ⌝ }
+{
+    let at = 4 * k;
+    Record {
+        command: roll[at],
+        flags: roll[at + 1],
+        willing: roll[at + 2],
+        lost: roll[at + 3],
+    }
+}
+
+fn down_lost(r: Record) -> bool
+    ensures { λ b. ⌜ b ≡ downLost r ⌝ }
+{
+    r.flags / 2 % 2 == 1
+}
+
+fn broad(x: u32) -> usize
+    ensures { λ r. ⌜ (r ≡ x) × (r < 4294967296) ⌝ }
+{
+    x as usize
+}
+
+// As many ticks of a roll that is not refused as have room for their lines.
+pub(crate) fn lines(p: Plan, y: Yard, roll: &[u8], first: u32, out: &mut [u8]) -> Listed
+    requires { ⌜ listVerdict p y (now roll) ≡ Accepted ⌝ }
+    ensures { λ r. ⌜ r ≡ listAnswer p y (now (roll .entry)) first (length (now (out .entry))) ⌝ }
+    ensures { λ r. ⌜ now (out .exit) ≡ listBuffer p y (now (roll .entry)) first (now (out .entry)) ⌝ }
+{
+    let count = roll.len() / 4;
+    let room = out.len();
+    let mut yard = y;
+    let mut k: usize = 0;
+    let mut at: usize = 0;
+    while (k < count) & (64 <= room - at) {
+        let r = record_at(roll, k);
+        let a = yard::tick(p, yard, r);
+        let down = a.down;
+        yard = a.yard;
+        at = line(broad(first) + k + 1, p.N, yard, down, down_lost(r), out, at);
+        k += 1;
+    }
+    Listed {
+        verdict: Verdict::Accepted,
+        yard,
+        ticks: k,
+        length: at,
+    }
+}
