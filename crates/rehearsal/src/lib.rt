@@ -1,0 +1,126 @@
+// The program that crews run, as a library: it rehearses the plan in `yard.plan` on the roll in `yard.roll`, both in the
+// current folder, from a fresh yard, and prints the listing, or `refused NUMBER INDEX` and nothing else.
+// A file that is missing, or that cannot be read, counts as empty.
+use libc::STDOUT_FILENO;
+use rules::Plan;
+use rules::Verdict;
+use rules::Yard;
+
+// The bytes of a file, as many as the buffer holds; it answers how many.
+fn load(path: &[u8], buffer: &mut [u8]) -> usize {
+    let fd = os::open_read(path);
+    if fd < 0 {
+        return 0;
+    }
+    let got = io::read_full(fd, buffer);
+    libc::close(fd);
+    if buffer.len() < got {
+        return 0;
+    }
+    got
+}
+
+fn say(text: &[u8]) -> bool {
+    let written = io::write_all(STDOUT_FILENO, text);
+    if !written {
+        os::fail(b"standard output");
+    }
+    written
+}
+
+fn refuse(number: u8, index: usize) {
+    say(b"refused ");
+    io::print_decimal(STDOUT_FILENO, number as u64);
+    say(b" ");
+    io::print_decimal(STDOUT_FILENO, index as u64);
+    say(b"\n");
+}
+
+// The first `len` bytes of a block, if it has them.
+fn say_first(block: &[u8], len: usize) -> bool {
+    if block.len() < len {
+        return false;
+    }
+    say(&block[0..len])
+}
+
+// The roll's lines, block after block. A proved loop has to end: it counts its turns down, and each block but the last holds
+// at least a thousand lines.
+fn say_lines(p: Plan, fresh: Yard, roll: &[u8]) {
+    let mut block = [0u8; 65536];
+    let mut y = fresh;
+    let mut from: usize = 0;
+    let mut first: u32 = 0;
+    let mut turns: u32 = 100;
+    while turns > 0 {
+        if roll.len() < from {
+            break;
+        }
+        let rest = &roll[from..];
+        let l = listing::list(p, y, rest, first, &mut block);
+        let ticks = l.ticks;
+        let len = l.length;
+        let next = l.yard;
+        if ticks == 0 {
+            break;
+        }
+        if 10000 < ticks {
+            break;
+        }
+        if !say_first(&block, len) {
+            break;
+        }
+        y = next;
+        from = std::num::wrapping_add_usize(from, 4 * ticks);
+        first = std::num::wrapping_add_u32(first, ticks as u32);
+        turns -= 1;
+    }
+}
+
+fn say_header(n: u16) {
+    let mut block = [0u8; 64];
+    let len = listing::header(n, &mut block, 0);
+    say_first(&block, len);
+}
+
+// A plan that is taken, and its roll: refused as a whole, or listed.
+fn show_roll(p: Plan, roll: &[u8]) {
+    let start = yard::fresh(p);
+    let y = start.yard;
+    let mut none = [0u8; 1];
+    let ran = yard::run(p, y, roll, 0, &mut none);
+    let verdict = ran.verdict;
+    match verdict {
+        Verdict::Refused { number, index } => refuse(number, index),
+        Verdict::Accepted => {
+            say_header(p.N);
+            say_lines(p, y, roll);
+        }
+    }
+}
+
+fn show(file: &[u8], roll: &[u8]) {
+    let answer = planfile::read(file);
+    let verdict = answer.verdict;
+    let p = answer.plan;
+    match verdict {
+        Verdict::Refused { number, index } => refuse(number, index),
+        Verdict::Accepted => show_roll(p, roll),
+    }
+}
+
+// One byte more than the longest plan file, so that a longer one is seen to be too long; of the roll the first 40,000 bytes,
+// 10,000 ticks.
+pub fn rehearse() {
+    let mut file = [0u8; 65537];
+    let mut roll = [0u8; 40000];
+    let file_len = load(b"yard.plan", &mut file);
+    let roll_len = load(b"yard.roll", &mut roll);
+    if file.len() < file_len {
+        return;
+    }
+    if roll.len() < roll_len {
+        return;
+    }
+    show(&file[0..file_len], &roll[0..roll_len]);
+}
