@@ -68,9 +68,14 @@ marked-fits : (b i : ℕ) (lost : Bool) → i < 256 → length (b ∷ decimal i 
 marked-fits b i true h = omega (arith, length-append (decimal i) (mark true), digits-few 2 i (omega arith))
 marked-fits b i false h = omega (arith, length-append (decimal i) (mark false), digits-few 2 i (omega arith))
 
+none-fits : (lost : Bool) → length (downText down.None lost) ≤ 5
+unfolding downText
+none-fits true = omega arith
+none-fits false = omega arith
+
 down-fits : (l : Down) (lost : Bool) → downIndex l < 256 → length (downText l lost) ≤ 5
 unfolding downText
-down-fits down.None lost h = omega arith
+down-fits down.None lost h = none-fits lost
 down-fits (down.LeaseReq i) lost h = marked-fits 81 i lost h
 down-fits (down.Grant i) lost h = marked-fits 71 i lost h
 down-fits (down.Cancel i) lost h = marked-fits 67 i lost h
