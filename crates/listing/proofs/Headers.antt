@@ -1,12 +1,12 @@
 -- The header: when it is written, and that it then stands in the buffer.
-use Prim.Native.Nat.{ℕ, zero, suc, _+_, _≤_, _<_}
+use Prim.Native.Nat.{ℕ, _+_, _≤_, _<_}
 use native.Mathlib.Omega.{arith}
 use native.Mathlib.Nat.{add-zero}
-use mathlib.Core.Path.{_≡_, refl, sym, _∙_, ap}
-use mathlib.Core.Bool.{Bool, true, false, cond}
+use mathlib.Core.Path.{_≡_, sym}
+use mathlib.Core.Bool.{false}
 use mathlib.Core.List.{List, [], _∷_, _++_, append-nil}
 use lib.Dec.{leb}
-use lib.ListN.{length, take, drop, take-append-drop}
+use lib.ListN.{length, take, take-append-drop}
 use borrow.Author.Tests.{le-leb, lt-leb}
 use Rattle.laws.specs.Tests.{allOf}
 use Rattle.laws.specs.Lists.{tabulate}

@@ -1,12 +1,12 @@
 -- A roll that is not refused: none of its ticks is, and each gives its line.
-use Prim.Native.Nat.{ℕ, zero, suc, _+_, _-_, _≤_, _<_}
+use Prim.Native.Nat.{ℕ, _+_, _-_, _≤_, _<_}
 use native.Mathlib.Omega.{arith}
 use native.Mathlib.Numerals.{add-one}
-use mathlib.Core.Path.{_≡_, refl, sym, _∙_, ap}
+use mathlib.Core.Path.{_≡_, sym, _∙_}
 use mathlib.Core.Bool.{Bool, true, false, not, _&&_}
-use mathlib.Core.List.{List, [], _∷_, _++_}
+use mathlib.Core.List.{List}
 use lib.Dec.{ltb, leb, eqb}
-use lib.ListN.{length, drop}
+use lib.ListN.{length}
 use borrow.Author.Tests.{not-false, ltb-false, ltb-true, le-ltb, lt-ltb, leb-true, leb-false, eqb-true}
 use Rattle.laws.specs.Tests.{lowest}
 use Rattle.laws.proofs.Tests.{and-hold, lowest-none, lowest-is, lowest-is-none, case, clash, tests}
@@ -16,7 +16,7 @@ use Rattle.rules.specs.declared.Record.{Record}
 use Rattle.rules.specs.declared.Verdict.the-variants.{Accepted, Refused}
 use Rattle.rules.specs.declared.TickAnswer.{TickAnswer}
 use Rattle.rules.specs.declared.RunAnswer.{RunAnswer}
-use Rattle.rules.specs.Verdict.{firstRefusal, ifAccepted}
+use Rattle.rules.specs.Verdict.{firstRefusal}
 use Rattle.rules.specs.Table.{planVerdict}
 use Rattle.rules.specs.Yard.{stateVerdict, wellFormed}
 use Rattle.rules.specs.Tick.{sent, tick, tickVerdict, tickAnswer}
@@ -25,7 +25,6 @@ use Rattle.rules.specs.Run.{records, recordAt, after, lengthVerdict, rollVerdic
 use Rattle.rules.proofs.Plans.Accepted.{accepted-exactly}
 use Rattle.rules.proofs.Answers.{first-accepted, accepted-if}
 use Rattle.rules.proofs.Runs.Formed.{after-keeps-form}
-use Rattle.listing.specs.declared.Listed.{Listed}
 use Rattle.listing.specs.Text.{lineText}
 use Rattle.listing.specs.Listing.{tickLine, linesText, full, listVerdict, ticksListed, listAnswer, listBuffer}
 use Rattle.listing.specs.Written.{Written}

@@ -1,5 +1,5 @@
 -- The theorems of specs/Theorems.antt but the printed listings.
-use Prim.Native.Nat.{ℕ, zero, suc, _+_, _-_, _*_, _^_, _≤_, _<_}
+use Prim.Native.Nat.{ℕ, zero, suc, _+_, _-_, _*_, _≤_, _<_}
 use native.Mathlib.Omega.{arith}
 use native.Mathlib.Nat.{add-zero, add-suc}
 use native.Mathlib.Numerals.{add-one}
@@ -8,13 +8,11 @@ use mathlib.Core.Logic.{_↔_, _⊎_, inl, inr, ⊎-elim}
 use mathlib.Core.Bool.{Bool, true, false, false≢true}
 use mathlib.Core.List.{List, [], _∷_, _++_, append-assoc, append-nil}
 use lib.Dec.{eqb}
-use lib.ListN.{length, getD, drop, length-append, List·getD-append}
+use lib.ListN.{length, getD, length-append, List·getD-append}
 use lib.Seq.{getD-append-add}
 use borrow.Author.Tests.{eqb-true}
-use Rattle.laws.specs.Bits.{bit}
 use Rattle.laws.specs.Lists.{tabulate}
 use Rattle.laws.proofs.Tests.{case, tests}
-use Rattle.rules.specs.declared.Plan.{Plan}
 use Rattle.rules.specs.declared.Yard.{Yard}
 use Rattle.rules.specs.declared.Base.{Base}
 use Rattle.rules.specs.declared.Base.the-variants as base
@@ -24,11 +22,11 @@ use Rattle.rules.specs.declared.Down.{Down}
 use Rattle.rules.specs.declared.Down.the-variants as down
 use Rattle.rules.specs.Yard.{device, engaged}
 use Rattle.rules.specs.Tick.Step3.{baseIndex}
-use Rattle.rules.specs.Run.{recordAt, after, engagedByte}
+use Rattle.rules.specs.Run.{after}
 use Rattle.rules.proofs.Runs.Engaged.{byte-at}
 use Rattle.rules.proofs.Runs.Splits.{record-later, after-splits}
 use Rattle.listing.specs.Text.{decimal, supText, placeByte, placeText, mark, downText, spaced, lineText}
-use Rattle.listing.specs.Listing.{tickLine, linesText, lineRoom}
+use Rattle.listing.specs.Listing.{tickLine, linesText}
 use Rattle.listing.specs.Theorems.{LineFits, downIndex, placeAt, EngagedShown, ListingSplits}
 use Rattle.listing.proofs.Decimals.{digits-few}
 use Rattle.listing.proofs.Fields.{in-order, next-field}
@@ -70,9 +68,14 @@ marked-fits : (b i : ℕ) (lost : Bool) → i < 256 → length (b ∷ decimal i 
 marked-fits b i true h = omega (arith, length-append (decimal i) (mark true), digits-few 2 i (omega arith))
 marked-fits b i false h = omega (arith, length-append (decimal i) (mark false), digits-few 2 i (omega arith))
 
+none-fits : (lost : Bool) → length (downText down.None lost) ≤ 5
+unfolding downText
+none-fits true = omega arith
+none-fits false = omega arith
+
 down-fits : (l : Down) (lost : Bool) → downIndex l < 256 → length (downText l lost) ≤ 5
 unfolding downText
-down-fits down.None lost h = omega arith
+down-fits down.None lost h = none-fits lost
 down-fits (down.LeaseReq i) lost h = marked-fits 81 i lost h
 down-fits (down.Grant i) lost h = marked-fits 71 i lost h
 down-fits (down.Cancel i) lost h = marked-fits 67 i lost h

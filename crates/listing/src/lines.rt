@@ -6,12 +6,11 @@ use rules::Record;
 use rules::Verdict;
 use rules::Yard;
 ghost use mathlib.Core.Path.{_≡_};
-ghost use mathlib.Core.Bool.{true};
-ghost use Prim.Native.Nat.{ℕ, _+_, _*_, _≤_, _<_};
+ghost use Prim.Native.Nat.{_+_, _*_, _≤_, _<_};
 ghost use lib.ListN.{length};
 ghost use Rattle.rules.specs.declared.Verdict.the-variants.{Accepted};
-ghost use Rattle.rules.specs.Tick.Input.{validRecord, downLost};
-ghost use Rattle.rules.specs.Run.{records, recordAt};
+ghost use Rattle.rules.specs.Tick.Input.{downLost};
+ghost use Rattle.rules.specs.Run.{recordAt};
 ghost use Rattle.listing.specs.Listing.{listVerdict, listAnswer, listBuffer};
 
 // The record at k, counted from 0; callers have seen that the roll has it.

@@ -4,10 +4,6 @@ use Rattle.listing.proofs.Headers.{many, tight, written}
 use borrow.Author.Needs.{needs}
 use Rattle.listing.proofs.header.Statement.{statement}
 use Rattle.listing.proofs.header.Tie as tie
-use Rattle.listing.proofs.header.Reads as reads
-use Rattle.listing.proofs.header.Lts as lts
-use Rattle.listing.proofs.line.titles.Reads as titles-reads
-use Rattle.listing.proofs.text.word.Reads as word-reads
 
 returns : tie.Need-returns
 returns c = many (c .before .before .args .n) (c .before .before .args .out .now) (c .before .before .args .at) (c .if1 .taken)

@@ -5,13 +5,6 @@ use Rattle.listing.proofs.Fields.{line-written}
 use borrow.Author.Needs.{needs}
 use Rattle.listing.proofs.line.line.Statement.{statement}
 use Rattle.listing.proofs.line.line.Tie as tie
-use Rattle.listing.proofs.line.line.Reads as reads
-use Rattle.listing.proofs.line.line.Lts as lts
-use Rattle.listing.proofs.text.letter.Reads as letter-reads
-use Rattle.listing.proofs.text.number.Reads as number-reads
-use Rattle.listing.proofs.text.places.Reads as places-reads
-use Rattle.listing.proofs.text.put.Reads as put-reads
-use Rattle.listing.proofs.text.supervisor.Reads as supervisor-reads
 
 number-requires : tie.Need-number-requires
 number-requires c κs = omega (arith, digits-few 19 (c .before .before .before .args .tick) (omega arith), c .before .before .before .pre .1)

@@ -12,10 +12,6 @@ use Rattle.listing.proofs.Writes.{nothing, length-kept}
 use Rattle.listing.proofs.Fields.{next-title}
 use Rattle.listing.proofs.line.titles.Statement.{statement}
 use Rattle.listing.proofs.line.titles.Tie as tie
-use Rattle.listing.proofs.line.titles.Reads as reads
-use Rattle.listing.proofs.line.titles.Lts as lts
-use Rattle.listing.proofs.text.number.Reads as number-reads
-use Rattle.listing.proofs.text.put.Reads as put-reads
 
 abbrev Inv-loop : tie.InvT-loop
 Inv-loop n out₀ at count e₀ k₀ out e k =

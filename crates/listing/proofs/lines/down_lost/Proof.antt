@@ -2,8 +2,6 @@ use mathlib.Core.Path.{refl}
 use Rattle.laws.specs.Bits.{bit}
 use Rattle.listing.proofs.lines.down_lost.Statement.{statement}
 use Rattle.listing.proofs.lines.down_lost.Tie as tie
-use Rattle.listing.proofs.lines.down_lost.Reads as reads
-use Rattle.listing.proofs.lines.down_lost.Lts as lts
 
 returns : tie.Need-returns
 unfolding bit

@@ -1,7 +1,7 @@
-use Prim.Native.Nat.{ℕ, _+_, _-_, _≤_, _<_}
+use Prim.Native.Nat.{ℕ, _-_, _≤_, _<_}
 use native.Mathlib.Omega.{arith}
-use mathlib.Core.Path.{_≡_, refl, sym, _∙_}
-use mathlib.Core.Bool.{true, false}
+use mathlib.Core.Path.{_≡_, refl}
+use mathlib.Core.Bool.{false}
 use lib.ListN.{length}
 use borrow.Author.Needs.{needs}
 use Rattle.rules.specs.Run.{records, after}
@@ -11,13 +11,6 @@ use Rattle.listing.proofs.Writes.{nothing, length-kept}
 use Rattle.listing.proofs.Rolls.{goes-on, few, next-yard, next-line, more-room, no-room, answer-is, buffer-is}
 use Rattle.listing.proofs.lines.lines.Statement.{statement}
 use Rattle.listing.proofs.lines.lines.Tie as tie
-use Rattle.listing.proofs.lines.lines.Reads as reads
-use Rattle.listing.proofs.lines.lines.Lts as lts
-use Rattle.listing.proofs.line.line.Reads as line-reads
-use Rattle.listing.proofs.lines.broad.Reads as broad-reads
-use Rattle.listing.proofs.lines.down_lost.Reads as down-lost-reads
-use Rattle.listing.proofs.lines.record_at.Reads as record-at-reads
-use Rattle.yard.proofs.tick.Reads as tick-reads
 
 abbrev Inv-loop : tie.InvT-loop
 Inv-loop p roll first out₀ count room yard₀ k₀ at₀ out yard k at =

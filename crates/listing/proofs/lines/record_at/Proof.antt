@@ -3,8 +3,6 @@ use Rattle.rules.specs.Run.{recordAt}
 use borrow.Author.Needs.{needs}
 use Rattle.listing.proofs.lines.record_at.Statement.{statement}
 use Rattle.listing.proofs.lines.record_at.Tie as tie
-use Rattle.listing.proofs.lines.record_at.Reads as reads
-use Rattle.listing.proofs.lines.record_at.Lts as lts
 
 mul-at : tie.Need-mul-at
 mul-at c = search needs

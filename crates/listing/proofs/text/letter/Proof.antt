@@ -3,10 +3,6 @@ use Rattle.listing.specs.Text.{downText}
 use borrow.Author.Needs.{needs}
 use Rattle.listing.proofs.text.letter.Statement.{statement}
 use Rattle.listing.proofs.text.letter.Tie as tie
-use Rattle.listing.proofs.text.letter.Reads as reads
-use Rattle.listing.proofs.text.letter.Lts as lts
-use Rattle.listing.proofs.text.marked.Reads as marked-reads
-use Rattle.listing.proofs.text.put.Reads as put-reads
 
 enum-told : tie.Need-enum-told
 enum-told c = search needs

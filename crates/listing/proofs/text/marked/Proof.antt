@@ -5,10 +5,6 @@ use Rattle.listing.proofs.Writes.{and-then, as-text}
 use borrow.Author.Needs.{needs}
 use Rattle.listing.proofs.text.marked.Statement.{statement}
 use Rattle.listing.proofs.text.marked.Tie as tie
-use Rattle.listing.proofs.text.marked.Reads as reads
-use Rattle.listing.proofs.text.marked.Lts as lts
-use Rattle.listing.proofs.text.put.Reads as put-reads
-use Rattle.listing.proofs.text.with_index.Reads as with-index-reads
 
 with-index-requires : tie.Need-with-index-requires
 with-index-requires c κs = search needs

@@ -1,4 +1,4 @@
-use Prim.Native.Nat.{ℕ, _+_, _-_, _*_, _≤_}
+use Prim.Native.Nat.{_+_, _-_, _*_, _≤_}
 use native.Mathlib.Omega.{arith}
 use mathlib.Core.Path.{_≡_, refl}
 use lib.ListN.{length}
@@ -11,10 +11,6 @@ use Rattle.listing.proofs.Writes.{nothing, length-kept}
 use Rattle.listing.proofs.Fields.{next-place}
 use Rattle.listing.proofs.text.places.Statement.{statement}
 use Rattle.listing.proofs.text.places.Tie as tie
-use Rattle.listing.proofs.text.places.Reads as reads
-use Rattle.listing.proofs.text.places.Lts as lts
-use Rattle.listing.proofs.text.place_byte.Reads as place-byte-reads
-use Rattle.listing.proofs.text.put.Reads as put-reads
 
 abbrev Inv-loop : tie.InvT-loop
 Inv-loop n out₀ at devices count e₀ k₀ out e k =

@@ -3,10 +3,6 @@ use Rattle.listing.specs.Text.{supText}
 use borrow.Author.Needs.{needs}
 use Rattle.listing.proofs.text.supervisor.Statement.{statement}
 use Rattle.listing.proofs.text.supervisor.Tie as tie
-use Rattle.listing.proofs.text.supervisor.Reads as reads
-use Rattle.listing.proofs.text.supervisor.Lts as lts
-use Rattle.listing.proofs.text.put.Reads as put-reads
-use Rattle.listing.proofs.text.with_index.Reads as with-index-reads
 
 enum-told : tie.Need-enum-told
 enum-told c = search needs

@@ -4,11 +4,6 @@ use Rattle.listing.proofs.Writes.{and-then, length-kept}
 use borrow.Author.Needs.{needs}
 use Rattle.listing.proofs.text.with_index.Statement.{statement}
 use Rattle.listing.proofs.text.with_index.Tie as tie
-use Rattle.listing.proofs.text.with_index.Reads as reads
-use Rattle.listing.proofs.text.with_index.Lts as lts
-use Rattle.listing.proofs.text.number.Reads as number-reads
-use Rattle.listing.proofs.text.put.Reads as put-reads
-use Rattle.listing.proofs.text.wide.Reads as wide-reads
 
 put-requires : tie.Need-put-requires
 put-requires c κs = search needs

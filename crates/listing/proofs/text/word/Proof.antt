@@ -7,8 +7,6 @@ use Rattle.listing.specs.Written.{Written}
 use Rattle.listing.proofs.Writes.{next-byte, no-byte, all-bytes}
 use Rattle.listing.proofs.text.word.Statement.{statement}
 use Rattle.listing.proofs.text.word.Tie as tie
-use Rattle.listing.proofs.text.word.Reads as reads
-use Rattle.listing.proofs.text.word.Lts as lts
 
 abbrev Inv-loop : tie.InvT-loop
 Inv-loop text out₀ at k₀ out k =
