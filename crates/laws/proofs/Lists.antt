@@ -1,6 +1,7 @@
 -- Laws of lists that are given by what stands at each number from 1.
-use Prim.Native.Nat.{ℕ, zero, suc, _+_, _-_, _≤_, _<_}
+use Prim.Native.Nat.{ℕ, zero, suc, _+_, _-_, _*_, _≤_, _<_}
 use native.Mathlib.Omega.{arith}
+use native.Mathlib.Nat.{mul-suc}
 use native.Mathlib.Numerals.{add-one}
 use mathlib.Core.Path.{_≡_, refl, sym, _∙_, ap}
 use mathlib.Core.List.{List, [], _∷_, _++_}
@@ -9,7 +10,7 @@ use lib.Dec.{leb, eqb}
 use borrow.Author.Tests.{eqb-true, eqb-false, lt-leb, le-leb}
 use lib.ListN.{length, getD, set, drop, length-set, length-append, List·getD-append}
 use lib.Seq.{getD-at, set-at, drop-cons, append-snoc, ext-getD, getD-set-same, getD-set-other}
-use Rattle.laws.specs.Lists.{tabulate, swept}
+use Rattle.laws.specs.Lists.{tabulate, swept, joined}
 use Rattle.laws.proofs.Tests.{case, tests}
 
 module _ {A : Type 0} (f : ℕ → A) where
@@ -56,6 +57,9 @@ module _ {A : Type 0} (f g : ℕ → A) (m : ℕ) where
   pub swept-none : swept f g 0 m ≡ tabulate g m
   swept-none = tabulate-same _ g m (λ i low high. rw (lt-leb i 0 low))
 
+  pub swept-all : swept f g m m ≡ tabulate f m
+  swept-all = tabulate-same _ f m (λ i low high. rw (le-leb i m high))
+
   swept-at : (n k : ℕ) (d : A) → k < m → getD (swept f g n m) k d ≡ cond (leb (k + 1) n) (f (k + 1)) (g (k + 1))
   swept-at n k d in-m =
       ap (λ (j : ℕ). getD (swept f g n m) j d) {x = k} {y = k + 1 - 1} (omega arith)
@@ -95,3 +99,11 @@ pub write-next :
 write-next done buffer k x d e h =
     rw (drop-cons buffer k d h, add-one k)
     (set-at done (getD buffer k d) (drop (suc k) buffer) x k e ∙ sym (append-snoc done x (drop (suc k) buffer)))
+
+-- Pieces of one length, one behind the other.
+module _ {A : Type 0} (f : ℕ → List A) (w : ℕ) (wide : (i : ℕ) → length (f i) ≡ w) where
+  pub joined-length : (n : ℕ) → length (joined f n) ≡ w * n
+  unfolding joined
+  joined-length zero = omega arith
+  joined-length (suc n) =
+      length-append (joined f n) (f (suc n)) ∙ rw (joined-length n, wide (suc n)) (sym (mul-suc w n))

@@ -13,8 +13,8 @@ use Rattle.rules.specs.declared.Down.{Down}
 use Rattle.rules.specs.Yard.{freshDevice, device}
 use Rattle.yard.specs.Sweep.{deviceAt}
 use Rattle.listing.specs.Text.{decimal, supText, placeByte, placeText, downText, spaced, lineOf, lineText}
-use Rattle.listing.specs.Written.{Written}
-use Rattle.listing.proofs.Writes.{and-then, as-text}
+use Rattle.laws.specs.Written.{Written}
+use Rattle.laws.proofs.Writes.{and-then, as-text}
 
 pub spaced-append : (a b : List (List ℕ)) → spaced (a ++ b) ≡ spaced a ++ spaced b
 unfolding spaced

@@ -13,8 +13,8 @@ use Rattle.laws.specs.Lists.{tabulate}
 use Rattle.laws.proofs.Tests.{case}
 use Rattle.listing.specs.Text.{decimal, spaced, headerText}
 use Rattle.listing.specs.Listing.{lineRoom, headerWritten, headerBuffer}
-use Rattle.listing.specs.Written.{Written}
-use Rattle.listing.proofs.Writes.{as-text, as-parts}
+use Rattle.laws.specs.Written.{Written}
+use Rattle.laws.proofs.Writes.{as-text, as-parts}
 use Rattle.listing.proofs.Fields.{in-order}
 
 module _ (n : ℕ) (l : List ℕ) (at : ℕ) where

@@ -1,5 +1,4 @@
 pub mod Decimals
-pub mod Writes
 pub mod Fields
 pub mod Rolls
 pub mod Headers

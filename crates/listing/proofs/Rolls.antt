@@ -27,8 +27,8 @@ use Rattle.rules.proofs.Answers.{first-accepted, accepted-if}
 use Rattle.rules.proofs.Runs.Formed.{after-keeps-form}
 use Rattle.listing.specs.Text.{lineText}
 use Rattle.listing.specs.Listing.{tickLine, linesText, full, listVerdict, ticksListed, listAnswer, listBuffer}
-use Rattle.listing.specs.Written.{Written}
-use Rattle.listing.proofs.Writes.{and-then, as-text, as-parts}
+use Rattle.laws.specs.Written.{Written}
+use Rattle.laws.proofs.Writes.{and-then, as-text, as-parts}
 
 -- The loop's test.
 pub goes-on : (k n room at : ℕ) → (ltb k n && leb 64 (room - at)) ≡ true → (k < n) × (64 ≤ room - at)

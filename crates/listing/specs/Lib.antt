@@ -1,5 +1,4 @@
 pub mod Text
 pub mod Listing
-pub mod Written
 pub mod Printed
 pub mod Theorems

@@ -12,7 +12,7 @@ ghost use lib.ListN.{length};
 ghost use Rattle.laws.specs.Lists.{tabulate};
 ghost use Rattle.listing.specs.Text.{decimal, spaced, lineText};
 ghost use Rattle.listing.specs.Listing.{lineRoom};
-ghost use Rattle.listing.specs.Written.{Written};
+ghost use Rattle.laws.specs.Written.{Written};
 
 // The titles d1 to dn, each with a space before it.
 pub(crate) fn titles(n: u16, out: &mut [u8], at: usize) -> usize

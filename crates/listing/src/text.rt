@@ -10,7 +10,7 @@ ghost use lib.ListN.{length};
 ghost use Rattle.laws.specs.Lists.{tabulate};
 ghost use Rattle.yard.specs.Sweep.{deviceAt};
 ghost use Rattle.listing.specs.Text.{decimal, supText, placeByte, placeText, mark, downText, spaced};
-ghost use Rattle.listing.specs.Written.{Written};
+ghost use Rattle.laws.specs.Written.{Written};
 
 pub(crate) fn put(b: u8, out: &mut [u8], at: usize) -> usize
     requires { ⌜ at < length (now out) ⌝ }

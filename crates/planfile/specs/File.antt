@@ -1,7 +1,7 @@
 -- Document 01, "The plan file": what a file says, and what its reader answers. Notes may surround the body.
 -- Of a trailer, `size` is the body length, `back` the distance back from the file's end to the body, `mark` its last two bytes.
 use Prim.Native.Nat.{ℕ, _+_, _-_, _*_, _/_}
-use mathlib.Core.Bool.{Bool, not, _&&_, _||_}
+use mathlib.Core.Bool.{Bool, not, cond, _&&_, _||_}
 use mathlib.Core.List.{List, [], _∷_}
 use lib.Dec.{leb, ltb, eqb}
 use lib.ListN.{length, take, drop}
@@ -109,3 +109,7 @@ bodySpan file =
     ifAccepted (trailerVerdict (length file) t)
     (record { start = length file - t .back; len = t .size })
     (record { start = 0; len = 0 })
+
+-- A plan with all eight slots, as callers in other languages lend it: 104 bytes, which are not checked here.
+unfoldable pub wholePlan : List ℕ → Plan
+wholePlan bytes = cond (eqb (length bytes) 104) (planIn 8 bytes) emptyPlan

@@ -40,7 +40,7 @@ fn slots_in(body: &[u8], n: usize) -> [Slot; 8]
     slots
 }
 
-fn plan_in(body: &[u8], n: usize) -> Plan
+pub(crate) fn plan_in(body: &[u8], n: usize) -> Plan
     requires { ⌜ (2 ≤ n) × (n ≤ 8) × (length (now body) ≡ 8 + 12 * n) ⌝ }
     ensures { λ r. ⌜ r ≡ planIn n (now (body .entry)) ⌝ }
 {

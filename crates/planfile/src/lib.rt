@@ -3,7 +3,7 @@
 // The trailer, at the file's end, is read as numbers and judged as numbers. Only when it is taken is the body, a part of the
 // file from wherever the trailer says, handed on to be read.
 mod body;
-mod bytes;
+pub mod bytes;
 
 use bytes::four_bytes;
 use bytes::two_bytes;
@@ -13,7 +13,7 @@ use rules::Verdict;
 ghost use mathlib.Core.Path.{_≡_};
 ghost use lib.ListN.{length};
 ghost use Rattle.rules.specs.declared.Verdict.the-variants as verdict;
-ghost use Rattle.planfile.specs.File.{trailerIn, devicesFor, isBodySize, emptyPlan, trailerVerdict, answerOf, readAnswer, bodySpan};
+ghost use Rattle.planfile.specs.File.{trailerIn, devicesFor, isBodySize, emptyPlan, trailerVerdict, answerOf, readAnswer, bodySpan, wholePlan};
 
 // The last ten bytes of a file: the body's length, the version, the distance back from the file's end to the body, and the
 // two bytes that every plan file ends with.
@@ -176,4 +176,15 @@ pub fn body_span(file: &[u8]) -> Span
         start: len - back,
         len: size,
     }
+}
+
+// The plan in 104 bytes: a body with all eight slots, those above N included, as callers in other languages lend it. It is
+// not checked. Of another length, an all-zero plan, which the check refuses.
+pub fn whole_plan(bytes: &[u8]) -> Plan
+    ensures { λ r. ⌜ r ≡ wholePlan (now (bytes .entry)) ⌝ }
+{
+    if bytes.len() != 104 {
+        return empty_plan();
+    }
+    body::plan_in(bytes, 8)
 }

@@ -1,5 +1,5 @@
 use native.Mathlib.Omega.{arith}
-use Rattle.listing.proofs.Writes.{and-then}
+use Rattle.laws.proofs.Writes.{and-then}
 use Rattle.listing.proofs.Headers.{many, tight, written}
 use borrow.Author.Needs.{needs}
 use Rattle.listing.proofs.header.Statement.{statement}

@@ -1,6 +1,6 @@
 use native.Mathlib.Omega.{arith}
 use Rattle.listing.proofs.Decimals.{digits-few}
-use Rattle.listing.proofs.Writes.{and-then, room-after}
+use Rattle.laws.proofs.Writes.{and-then, room-after}
 use Rattle.listing.proofs.Fields.{line-written}
 use borrow.Author.Needs.{needs}
 use Rattle.listing.proofs.line.line.Statement.{statement}

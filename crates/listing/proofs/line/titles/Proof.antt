@@ -6,9 +6,9 @@ use lib.ListN.{length}
 use borrow.Author.Needs.{needs}
 use Rattle.laws.specs.Lists.{tabulate}
 use Rattle.listing.specs.Text.{decimal, spaced}
-use Rattle.listing.specs.Written.{Written}
+use Rattle.laws.specs.Written.{Written}
 use Rattle.listing.proofs.Decimals.{one-digit}
-use Rattle.listing.proofs.Writes.{nothing, length-kept}
+use Rattle.laws.proofs.Writes.{nothing, length-kept}
 use Rattle.listing.proofs.Fields.{next-title}
 use Rattle.listing.proofs.line.titles.Statement.{statement}
 use Rattle.listing.proofs.line.titles.Tie as tie

@@ -1,7 +1,7 @@
 use native.Mathlib.Omega.{arith}
 use mathlib.Core.Path.{sym}
 use mathlib.Core.List.{append-nil}
-use Rattle.listing.proofs.Writes.{and-then, as-text}
+use Rattle.laws.proofs.Writes.{and-then, as-text}
 use borrow.Author.Needs.{needs}
 use Rattle.listing.proofs.text.marked.Statement.{statement}
 use Rattle.listing.proofs.text.marked.Tie as tie

@@ -6,8 +6,8 @@ use borrow.Author.Needs.{needs}
 use Rattle.laws.specs.Lists.{tabulate}
 use Rattle.yard.specs.Sweep.{deviceAt}
 use Rattle.listing.specs.Text.{placeText, spaced}
-use Rattle.listing.specs.Written.{Written}
-use Rattle.listing.proofs.Writes.{nothing, length-kept}
+use Rattle.laws.specs.Written.{Written}
+use Rattle.laws.proofs.Writes.{nothing, length-kept}
 use Rattle.listing.proofs.Fields.{next-place}
 use Rattle.listing.proofs.text.places.Statement.{statement}
 use Rattle.listing.proofs.text.places.Tie as tie

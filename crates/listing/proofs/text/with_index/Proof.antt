@@ -1,6 +1,6 @@
 use native.Mathlib.Omega.{arith}
 use Rattle.listing.proofs.Decimals.{digits-few}
-use Rattle.listing.proofs.Writes.{and-then, length-kept}
+use Rattle.laws.proofs.Writes.{and-then, length-kept}
 use borrow.Author.Needs.{needs}
 use Rattle.listing.proofs.text.with_index.Statement.{statement}
 use Rattle.listing.proofs.text.with_index.Tie as tie

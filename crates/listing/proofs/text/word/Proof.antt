@@ -3,8 +3,8 @@ use native.Mathlib.Omega.{arith}
 use mathlib.Core.Path.{_≡_, refl, _∙_}
 use lib.ListN.{length, take, length-set}
 use borrow.Author.Needs.{needs}
-use Rattle.listing.specs.Written.{Written}
-use Rattle.listing.proofs.Writes.{next-byte, no-byte, all-bytes}
+use Rattle.laws.specs.Written.{Written}
+use Rattle.laws.proofs.Writes.{next-byte, no-byte, all-bytes}
 use Rattle.listing.proofs.text.word.Statement.{statement}
 use Rattle.listing.proofs.text.word.Tie as tie
 

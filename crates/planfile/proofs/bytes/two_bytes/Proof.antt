@@ -1,42 +1,24 @@
-use Rattle.planfile.specs.Bytes as bytes
+use Rattle.planfile.specs.Bytes.{num16}
 use borrow.Author.Needs.{needs}
 use Rattle.planfile.proofs.bytes.two_bytes.Statement.{statement}
 use Rattle.planfile.proofs.bytes.two_bytes.Tie as tie
 
-shared-slice-read-wide : tie.Need-shared-slice-read-wide
-shared-slice-read-wide c = search needs
+shared-slice-read-two : tie.Need-shared-slice-read-two
+shared-slice-read-two c = search needs
 
-wide-requires : tie.Need-wide-requires
-wide-requires c κs = search needs
+add-two : tie.Need-add-two
+add-two c = search needs
 
-add-wide : tie.Need-add-wide
-add-wide c = search needs
+shared-slice-read-two-2 : tie.Need-shared-slice-read-two-2
+shared-slice-read-two-2 c = search needs
 
-shared-slice-read-wide-2 : tie.Need-shared-slice-read-wide-2
-shared-slice-read-wide-2 c = search needs
-
-wide-requires-2 : tie.Need-wide-requires-2
-wide-requires-2 c κs = search needs
-
-mul-result : tie.Need-mul-result
-mul-result c = search needs
-
-add-result : tie.Need-add-result
-add-result c = search needs
+two-requires : tie.Need-two-requires
+two-requires c κs = search needs
 
 returns : tie.Need-returns
-unfolding bytes.num16
-returns c = rw (c .wide2 .ensures .0, c .before .before .wide .ensures .0)
+unfolding num16
+returns c = rw (c .two .ensures)
 
 pub two-bytes-spec : {M : Type 1} → statement M
 two-bytes-spec =
-    tie.close
-    (tie.spec
-    shared-slice-read-wide
-    wide-requires
-    add-wide
-    shared-slice-read-wide-2
-    wide-requires-2
-    mul-result
-    add-result
-    returns)
+    tie.close (tie.spec shared-slice-read-two add-two shared-slice-read-two-2 two-requires returns)

@@ -1,4 +1,4 @@
--- What the functions of this crate do to a buffer on the way; what a caller is promised is in `Listing`.
+-- What a function does to a buffer that it writes a text or a number into.
 use Prim.Native.Nat.{ℕ, _+_}
 use mathlib.Core.Path.{_≡_}
 use mathlib.Core.List.{List}
