@@ -1,0 +1,104 @@
+// The answers of document 01's calls to plans and yards that are lent as bytes. A wrong length is refused before all else.
+use crate::answers::size_verdict;
+use listing::Listed;
+use planfile::ReadAnswer;
+use rules::Down;
+use rules::FreshAnswer;
+use rules::Record;
+use rules::RunAnswer;
+use rules::TickAnswer;
+use rules::Verdict;
+ghost use mathlib.Core.Path.{_≡_};
+ghost use lib.ListN.{length};
+ghost use Rattle.exports.specs.Asked.{checkFor, freshFor, tickFor, runFor, engagedFor, readFor, listFor, textFor};
+
+pub(crate) fn check_for(plan: &[u8]) -> Verdict
+    ensures { λ r. ⌜ r ≡ checkFor (now (plan .entry)) ⌝ }
+{
+    let size = size_verdict(plan.len() == 104);
+    let Verdict::Accepted = size else {
+        return size;
+    };
+    plan::check(planfile::whole_plan(plan))
+}
+
+pub(crate) fn fresh_for(plan: &[u8], room: usize) -> FreshAnswer
+    ensures { λ r. ⌜ r ≡ freshFor (now (plan .entry)) room ⌝ }
+{
+    let a = yard::fresh(planfile::whole_plan(plan));
+    let yard = a.yard;
+    let size = size_verdict((plan.len() == 104) & (room == 40));
+    let Verdict::Accepted = size else {
+        return FreshAnswer {
+            verdict: size,
+            yard,
+        };
+    };
+    a
+}
+
+pub(crate) fn tick_for(plan: &[u8], bytes: &[u8], r: Record) -> TickAnswer
+    ensures { λ a. ⌜ a ≡ tickFor (now (plan .entry)) (now (bytes .entry)) r ⌝ }
+{
+    let p = planfile::whole_plan(plan);
+    let yard = layout::yard::read(bytes);
+    let size = size_verdict((plan.len() == 104) & (bytes.len() == 40));
+    let Verdict::Accepted = size else {
+        return TickAnswer {
+            verdict: size,
+            yard,
+            down: Down::None,
+        };
+    };
+    yard::tick(p, yard, r)
+}
+
+pub(crate) fn run_for(plan: &[u8], bytes: &[u8], roll: &[u8], budget: usize, engaged: &mut [u8]) -> RunAnswer
+    ensures { λ a. ⌜ a ≡ runFor (now (plan .entry)) (now (bytes .entry)) (now (roll .entry)) budget (now (engaged .entry)) ⌝ }
+    ensures { λ a. ⌜ now (engaged .exit) ≡ engagedFor (now (plan .entry)) (now (bytes .entry)) (now (roll .entry)) budget (now (engaged .entry)) ⌝ }
+{
+    let p = planfile::whole_plan(plan);
+    let yard = layout::yard::read(bytes);
+    let size = size_verdict((plan.len() == 104) & (bytes.len() == 40));
+    let Verdict::Accepted = size else {
+        return RunAnswer {
+            verdict: size,
+            yard,
+            ticks: 0,
+        };
+    };
+    yard::run(p, yard, roll, budget, engaged)
+}
+
+pub(crate) fn read_for(file: &[u8], room: usize) -> ReadAnswer
+    ensures { λ r. ⌜ r ≡ readFor (now (file .entry)) room ⌝ }
+{
+    let a = planfile::read(file);
+    let plan = a.plan;
+    let size = size_verdict(room == 104);
+    let Verdict::Accepted = size else {
+        return ReadAnswer {
+            verdict: size,
+            plan,
+        };
+    };
+    a
+}
+
+pub(crate) fn list_for(plan: &[u8], bytes: &[u8], roll: &[u8], first: u32, out: &mut [u8]) -> Listed
+    ensures { λ a. ⌜ a ≡ listFor (now (plan .entry)) (now (bytes .entry)) (now (roll .entry)) first (length (now (out .entry))) ⌝ }
+    ensures { λ a. ⌜ now (out .exit) ≡ textFor (now (plan .entry)) (now (bytes .entry)) (now (roll .entry)) first (now (out .entry)) ⌝ }
+{
+    let p = planfile::whole_plan(plan);
+    let yard = layout::yard::read(bytes);
+    let size = size_verdict((plan.len() == 104) & (bytes.len() == 40));
+    let Verdict::Accepted = size else {
+        return Listed {
+            verdict: size,
+            yard,
+            ticks: 0,
+            length: 0,
+        };
+    };
+    listing::list(p, yard, roll, first, out)
+}
