@@ -4,7 +4,8 @@ use mathlib.Core.Path.{_≡_}
 use mathlib.Core.List.{List}
 use denote.Ref.{RefT, now}
 use Rattle.laws.proofs.Tests.{determined}
-use Rattle.finder.specs.Piece.{Piece, inFile, inRoll, PartOf, Lies}
+use Rattle.finder.specs.declared.Piece.the-variants.{InFile, InRoll}
+use Rattle.finder.specs.Piece.{PartOf, Lies}
 use Rattle.finder.specs.Theorems.{FindDetermined}
 
 same-part :
@@ -14,5 +15,5 @@ same-part r s whole start n a b =
     (determined (a .bytes) (b .bytes), determined (a .block) (b .block), determined (a .place) (b .place))
 
 pub find-determined : FindDetermined
-find-determined r s file roll (inFile start n) a b = same-part r s file start n a b
-find-determined r s file roll (inRoll start n) a b = same-part r s roll start n a b
+find-determined r s file roll (InFile start n) a b = same-part r s file start n a b
+find-determined r s file roll (InRoll start n) a b = same-part r s roll start n a b

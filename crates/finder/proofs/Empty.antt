@@ -16,13 +16,15 @@ use Rattle.rules.specs.declared.Verdict.the-variants.{Accepted, Refused}
 use Rattle.rules.specs.Run.{records, lengthVerdict, rollVerdict}
 use Rattle.rules.proofs.Answers.{by-verdict, accepted-if}
 use Rattle.planfile.specs.File.{readAnswer}
-use Rattle.finder.specs.Piece.{Piece, inFile, inRoll, firstBad, rollStart, rollLength, pieceFor, piece}
+use Rattle.finder.specs.declared.Piece.{Piece}
+use Rattle.finder.specs.declared.Piece.the-variants.{InFile, InRoll}
+use Rattle.finder.specs.Piece.{firstBad, rollStart, rollLength, pieceFor, piece}
 use Rattle.finder.specs.Theorems.{EmptyExactly}
 
 -- How many bytes a piece has, and of the roll only.
 sizeOf : Piece → ℕ
-sizeOf (inFile start n) = 1
-sizeOf (inRoll start n) = n
+sizeOf (InFile start n) = 1
+sizeOf (InRoll start n) = n
 
 module _ (p : Plan) (roll : List ℕ) where
   faultless : rollLength p roll ≡ 0 → (lengthVerdict roll ≡ Accepted) × (rollVerdict p roll ≡ Accepted)
@@ -37,7 +39,7 @@ module _ (p : Plan) (roll : List ℕ) where
 
   empty-end :
       lengthVerdict roll ≡ Accepted → rollVerdict p roll ≡ Accepted
-      → inRoll (rollStart p roll) (rollLength p roll) ≡ inRoll (length roll) 0
+      → InRoll (rollStart p roll) (rollLength p roll) ≡ InRoll (length roll) 0
   unfolding rollStart rollLength rollVerdict
   empty-end l r =
       rw (accepted-if (not (eqb (length roll % 4) 0)) 12 0 l, accepted-if (ltb (firstBad p roll) (records roll)) 10 (firstBad p roll + 1) r)
@@ -48,7 +50,7 @@ empty-exactly file roll =
     let v : Verdict = readAnswer file .verdict in
     let p : Plan = readAnswer file .plan in (
       by-verdict v
-          (λ t. rw t (λ e. let f = faultless p roll (ap sizeOf e) in (refl, f .0, f .1)))
+          (λ t. rw t (λ e. let f = faultless p roll (ap sizeOf e) in (refl, cc, f .1)))
           (λ k i t. rw t (λ e. absurd (let z : _≡_ {A = ℕ} 1 0 = ap sizeOf e in omega arith))),
       λ h. rw (h .0) (empty-end p roll (h .1) (h .2)),
     )

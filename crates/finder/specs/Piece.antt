@@ -1,6 +1,6 @@
 -- Document 01, "The plan file": the finder hands back the refused piece of whichever is at fault, file or roll, a part of the
 -- lent bytes and nothing else.
-use Prim.Native.Nat.{ℕ, _+_, _-_, _*_, _%_, min}
+use Prim.Native.Nat.{ℕ, _+_, _-_, _*_, _%_, _≤_, min}
 use mathlib.Core.Path.{_≡_}
 use mathlib.Core.Bool.{Bool, not, cond}
 use mathlib.Core.List.{List}
@@ -14,11 +14,8 @@ use Rattle.rules.specs.declared.Verdict.the-variants.{Accepted, Refused}
 use Rattle.rules.specs.Tick.Input.{validRecord}
 use Rattle.rules.specs.Run.{records, recordAt}
 use Rattle.planfile.specs.File.{bodySpan, readAnswer}
-
--- A part of the file or of the roll: where it starts, and how many bytes it has.
-pub data Piece : Type 0 where
-  inFile : ℕ → ℕ → Piece
-  inRoll : ℕ → ℕ → Piece
+use Rattle.finder.specs.declared.Piece.{Piece}
+use Rattle.finder.specs.declared.Piece.the-variants.{InFile, InRoll}
 
 -- The last 10 bytes of the file (all, if shorter) for 14 to 19; the body for 2 to 9.
 unfoldable pub fileStart : List ℕ → ℕ → ℕ
@@ -44,11 +41,16 @@ rollLength p roll =
 
 -- The roll is looked at only after the plan has been taken.
 abbrev pub pieceFor : Verdict → Plan → List ℕ → List ℕ → Piece
-pieceFor Accepted p file roll = inRoll (rollStart p roll) (rollLength p roll)
-pieceFor (Refused k i) p file roll = inFile (fileStart file k) (fileLength file k)
+pieceFor Accepted p file roll = InRoll (rollStart p roll) (rollLength p roll)
+pieceFor (Refused k i) p file roll = InFile (fileStart file k) (fileLength file k)
 
 unfoldable pub piece : List ℕ → List ℕ → Piece
 piece file roll = pieceFor (readAnswer file .verdict) (readAnswer file .plan) file roll
+
+-- A piece of the file ends by the file's end, a piece of the roll by the roll's.
+abbrev pub Within : Piece → List ℕ → List ℕ → Type 0
+Within (InFile start n) file roll = start + n ≤ length file
+Within (InRoll start n) file roll = start + n ≤ length roll
 
 -- A lent part: r has the n bytes of s from start, and lies just there.
 pub record PartOf (r s : RefT (List ℕ)) (start n : ℕ) : Type 0 where
@@ -58,5 +60,5 @@ pub record PartOf (r s : RefT (List ℕ)) (start n : ℕ) : Type 0 where
 
 -- r is the piece, of whichever of the two it is.
 abbrev pub Lies : RefT (List ℕ) → RefT (List ℕ) → RefT (List ℕ) → Piece → Type 0
-Lies r file roll (inFile start n) = PartOf r file start n
-Lies r file roll (inRoll start n) = PartOf r roll start n
+Lies r file roll (InFile start n) = PartOf r file start n
+Lies r file roll (InRoll start n) = PartOf r roll start n

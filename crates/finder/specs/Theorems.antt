@@ -8,7 +8,13 @@ use denote.Ref.{RefT, now}
 use Rattle.rules.specs.declared.Verdict.the-variants.{Accepted}
 use Rattle.rules.specs.Run.{lengthVerdict, rollVerdict}
 use Rattle.planfile.specs.File.{readAnswer}
-use Rattle.finder.specs.Piece.{Piece, inRoll, piece, Lies}
+use Rattle.finder.specs.declared.Piece.{Piece}
+use Rattle.finder.specs.declared.Piece.the-variants.{InRoll}
+use Rattle.finder.specs.Piece.{piece, Within, Lies}
+
+-- The piece lies within the slice that it is of, whatever the file and the roll (`piece-within`).
+abbrev pub PieceWithin : Type 0
+PieceWithin = (file roll : List ℕ) → Within (piece file roll) file roll
 
 -- Any two results that the contract allows have the same bytes at the same place (`find-determined`). What stays free is the
 -- ghost name of the reference, which no program can see.
@@ -22,7 +28,7 @@ FindDetermined =
 abbrev pub EmptyExactly : Type 0
 EmptyExactly =
     (file roll : List ℕ)
-    → (piece file roll ≡ inRoll (length roll) 0)
+    → (piece file roll ≡ InRoll (length roll) 0)
     ↔ ((readAnswer file .verdict ≡ Accepted)
     × (lengthVerdict roll ≡ Accepted)
     × (rollVerdict (readAnswer file .plan) roll ≡ Accepted))

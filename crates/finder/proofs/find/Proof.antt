@@ -1,52 +1,42 @@
-use mathlib.Core.Path.{_≡_, refl, sym, _∙_, ap}
-use Rattle.planfile.specs.declared.ReadAnswer.{ReadAnswer}
-use Rattle.finder.specs.Piece.{piece}
+use mathlib.Core.Path.{sym, _∙_}
+use Rattle.finder.proofs.Within.{found-within}
 use borrow.Author.Needs.{needs}
 use Rattle.finder.proofs.find.Statement.{statement}
 use Rattle.finder.proofs.find.Tie as tie
-use Rattle.finder.proofs.find.Reads as reads
-use Rattle.finder.proofs.find.Lts as lts
-use Rattle.finder.proofs.file_piece.Reads as file-piece-reads
-use Rattle.finder.proofs.roll_piece.Reads as roll-piece-reads
-use Rattle.planfile.proofs.read.Reads as read-reads
 
-read-requires : tie.Need-read-requires
-read-requires c κs = search needs
+locate-requires : tie.Need-locate-requires
+locate-requires c κs = search needs
 
-enum-known-verdict : tie.Need-enum-known-verdict
-enum-known-verdict c = search needs
+enum-known-found : tie.Need-enum-known-found
+enum-known-found c = search needs
 
-enum-told : tie.Need-enum-told
-enum-told c = search needs
+part-requires : tie.Need-part-requires
+part-requires c κs = found-within _ _ (c .before .before .before .locate .ensures) (c .before .found .given .1)
 
-roll-piece-requires : tie.Need-roll-piece-requires
-roll-piece-requires c κs = search needs
+enum-known-found-2 : tie.Need-enum-known-found-2
+enum-known-found-2 c = search needs
+
+part-requires-2 : tie.Need-part-requires-2
+part-requires-2 c κs = found-within _ _ (c .before .before .before .locate .ensures) (c .before .found2 .given .1)
 
 returns : tie.Need-returns
-unfolding piece
 returns c =
-    let read = c .before .before .before .before .read .ensures in
-    let taken = sym (ap (λ (a : ReadAnswer). a .verdict) read) ∙ c .before .enum-told .given .1 in
-    rw taken (rw read at (c .roll-piece .ensures))
-
-file-piece-requires : tie.Need-file-piece-requires
-file-piece-requires c κs = search needs
+    let is = sym (c .before .before .before .before .locate .ensures) ∙ c .before .before .found .given .1 in
+    rw is (c .part .ensures)
 
 returns-2 : tie.Need-returns-2
-unfolding piece
 returns-2 c =
-    let read = c .before .before .before .before .before .read .ensures in
-    let refused = sym (ap (λ (a : ReadAnswer). a .verdict) read) ∙ c .before .before .verdict .given .1 in
-    rw refused (c .file-piece .ensures)
+    let is = sym (c .before .before .before .before .locate .ensures) ∙ c .before .before .found2 .given .1 in
+    rw is (c .part2 .ensures)
 
 pub find-spec : {M : Type 1} → statement M
 find-spec =
     tie.close
     (tie.spec
-    read-requires
-    enum-known-verdict
-    enum-told
-    roll-piece-requires
+    locate-requires
+    enum-known-found
+    part-requires
+    enum-known-found-2
+    part-requires-2
     returns
-    file-piece-requires
     returns-2)
