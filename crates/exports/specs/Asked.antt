@@ -1,11 +1,12 @@
 -- Document 01's calls, asked of plans and yards that are lent as bytes: the answers before they cross.
 use Prim.Native.Nat.{ℕ}
+use mathlib.Core.Path.{_≡_}
 use mathlib.Core.Bool.{Bool, not, _&&_}
 use mathlib.Core.List.{List}
 use lib.Dec.{eqb}
 use lib.ListN.{length}
 use Rattle.rules.specs.declared.Verdict.{Verdict}
-use Rattle.rules.specs.declared.Down.{Down}
+use Rattle.rules.specs.declared.Verdict.the-variants.{Accepted}
 use Rattle.rules.specs.declared.Down.the-variants as down
 use Rattle.rules.specs.declared.Record.{Record}
 use Rattle.rules.specs.declared.FreshAnswer.{FreshAnswer}
@@ -16,6 +17,7 @@ use Rattle.rules.specs.Table.{planVerdict}
 use Rattle.rules.specs.Yard.{freshYard, freshAnswer}
 use Rattle.rules.specs.Tick.{tickAnswer}
 use Rattle.rules.specs.Run.{runAnswer, runBuffer}
+use Rattle.rules.specs.Promises.{Kept, shown}
 use Rattle.planfile.specs.declared.ReadAnswer.{ReadAnswer}
 use Rattle.planfile.specs.File.{wholePlan, readAnswer}
 use Rattle.listing.specs.declared.Listed.{Listed}
@@ -59,6 +61,11 @@ runFor plan yard roll budget engaged =
 unfoldable pub engagedFor : List ℕ → List ℕ → List ℕ → ℕ → List ℕ → List ℕ
 engagedFor plan yard roll budget engaged =
     ifAccepted (sizeVerdict (sizes plan yard)) (runBuffer (wholePlan plan) (yardOf yard) roll budget engaged) engaged
+
+-- From a fresh yard under an accepted plan the engaged bytes keep promises 1 to 3 for the ticks done.
+abbrev pub KeptBy : List ℕ → List ℕ → List ℕ → ℕ → Type 0
+KeptBy plan yard engaged ticks =
+    planVerdict (wholePlan plan) ≡ Accepted → yardOf yard ≡ freshYard → Kept (wholePlan plan) (shown engaged) ticks
 
 -- `room` is the length of the plan that was lent.
 unfoldable pub readFor : List ℕ → ℕ → ReadAnswer

@@ -5,21 +5,16 @@ use mathlib.Core.Path.{_≡_}
 use mathlib.Core.List.{List}
 use lib.ListN.{length}
 use Rattle.rules.specs.declared.Verdict.{Verdict}
-use Rattle.rules.specs.declared.Verdict.the-variants.{Accepted}
 use Rattle.rules.specs.declared.Down.{Down}
 use Rattle.rules.specs.declared.Down.the-variants as down
 use Rattle.rules.specs.declared.Record.{Record}
 use Rattle.rules.specs.Verdict.{numberOf, indexOf, ifAccepted}
-use Rattle.rules.specs.Table.{planVerdict}
 use Rattle.rules.specs.Yard.{freshYard}
-use Rattle.rules.specs.Promises.{Kept, shown}
 use Rattle.finder.specs.declared.Piece.{Piece}
 use Rattle.finder.specs.declared.Piece.the-variants.{InFile, InRoll}
-use Rattle.finder.specs.Pieces.{piece}
-use Rattle.planfile.specs.File.{wholePlan}
+use Rattle.finder.specs.Piece.{piece}
 use Rattle.layout.specs.Bytes.{planBytes, yardBytes}
-use Rattle.layout.specs.Reading.{yardOf}
-use Rattle.exports.specs.Asked.{checkFor, freshFor, tickFor, runFor, engagedFor, readFor, listFor, textFor}
+use Rattle.exports.specs.Asked.{KeptBy, checkFor, freshFor, tickFor, runFor, engagedFor, readFor, listFor, textFor}
 
 -- A down letter as numbers: 0 none, 1 LeaseReq, 2 Grant, 3 Cancel, 4 Abort.
 abbrev pub downNumber : Down → ℕ
@@ -65,7 +60,7 @@ pub record Ran (plan yard roll : List ℕ) (budget : ℕ) (engaged after shownAf
   pub bytes : after ≡ ifAccepted (runFor plan yard roll budget engaged .verdict) (yardBytes (runFor plan yard roll budget engaged .yard)) yard
   pub buffer : shownAfter ≡ engagedFor plan yard roll budget engaged
   -- from a fresh yard under an accepted plan the engaged bytes keep the promises
-  pub promises : planVerdict (wholePlan plan) ≡ Accepted → yardOf yard ≡ freshYard → Kept (wholePlan plan) (shown shownAfter) ticks
+  pub promises : KeptBy plan yard shownAfter ticks
 
 -- A plan file, read.
 pub record Taken (file plan after : List ℕ) (number index : ℕ) : Type 0 where

@@ -10,7 +10,7 @@ use rules::TickAnswer;
 use rules::Verdict;
 ghost use mathlib.Core.Path.{_≡_};
 ghost use lib.ListN.{length};
-ghost use Rattle.exports.specs.Asked.{checkFor, freshFor, tickFor, runFor, engagedFor, readFor, listFor, textFor};
+ghost use Rattle.exports.specs.Asked.{KeptBy, checkFor, freshFor, tickFor, runFor, engagedFor, readFor, listFor, textFor};
 
 pub(crate) fn check_for(plan: &[u8]) -> Verdict
     ensures { λ r. ⌜ r ≡ checkFor (now (plan .entry)) ⌝ }
@@ -53,9 +53,16 @@ pub(crate) fn tick_for(plan: &[u8], bytes: &[u8], r: Record) -> TickAnswer
     yard::tick(p, yard, r)
 }
 
-pub(crate) fn run_for(plan: &[u8], bytes: &[u8], roll: &[u8], budget: usize, engaged: &mut [u8]) -> RunAnswer
+pub(crate) fn run_for(
+    plan: &[u8],
+    bytes: &[u8],
+    roll: &[u8],
+    budget: usize,
+    engaged: &mut [u8],
+) -> RunAnswer
     ensures { λ a. ⌜ a ≡ runFor (now (plan .entry)) (now (bytes .entry)) (now (roll .entry)) budget (now (engaged .entry)) ⌝ }
     ensures { λ a. ⌜ now (engaged .exit) ≡ engagedFor (now (plan .entry)) (now (bytes .entry)) (now (roll .entry)) budget (now (engaged .entry)) ⌝ }
+    ensures { λ a. ⌜ KeptBy (now (plan .entry)) (now (bytes .entry)) (now (engaged .exit)) (a .ticks) ⌝ }
 {
     let p = planfile::whole_plan(plan);
     let yard = layout::yard::read(bytes);
