@@ -26,7 +26,8 @@ use Rattle.rules.specs.Tick.Step2.{movedAt, step2}
 use Rattle.rules.specs.Tick.Step3.{heard, baseMove, baseIndex, letterGone, step3}
 use Rattle.rules.specs.Tick.Step4.{delivered, step4}
 use Rattle.rules.proofs.Ticks.Views.{each-used, each-unused, risen, turn, tick-down}
-use Rattle.yard.specs.Sweep.{deviceAt, sweep, risenBy, settledBy, heardFrom}
+use Rattle.yard.specs.Sweep.{deviceAt, sweep, risenBy, deliveredBy, gone, heardFrom}
+use Rattle.yard.proofs.Sweeps.{sweep-both}
 
 -- Two steps, one after the other over all devices, are one pass of both.
 module _ (p : Plan) (f g : ℕ → Device → Device) (y z : Yard) (done : z .devices ≡ eachDevice p f y) where
@@ -50,35 +51,45 @@ module _ (p : Plan) (y : Yard) (r : Record) where
 
   pub settles :
       tick p y r .devices
-      ≡ sweep (p .N) (settledBy (p .slots) (downLost r) (r .willing) (turn p y r .down)) (risen p y r .devices)
+      ≡ sweep (p .N) (λ i d. deliveredBy (p .slots) (downLost r) (r .willing) (turn p y r .down) i (gone d)) (risen p y r .devices)
   unfolding tick sent step1 step2 step3 step4 slot
   settles =
       two-passes p letterGone (delivered p r (turn p y r .down)) (risen p y r) (sent p y r .yard) refl
 
+  -- The devices once steps 1 and 2 are done, their letters still with them: the code never holds them all.
+  abbrev up : Terms → List Device
+  up t = sweep (t .N) (risenBy (p .Q) (t .N) (p .slots) (r .command)) (y .devices)
+
   -- What the code holds at the tick's end.
   module _
       (t : Terms) (t-is : t ≡ terms p)
-      (up devices : List Device) (i clock lease : ℕ) (last own : Letter) (approved lost : Bool) (m : BaseMove)
-      (up-is : up ≡ sweep (t .N) (risenBy (p .Q) (t .N) (p .slots) (r .command)) (y .devices))
-      (last-is : last ≡ heardFrom (r .lost) up (t .N))
+      (left devices : List Device) (i clock lease : ℕ) (last own : Letter) (approved lost : Bool) (m : BaseMove)
+      (last-is : last ≡ heardFrom (r .lost) (up t) (t .N))
       (i-is : i ≡ baseIndex (y .base))
-      (own-is : own ≡ heardFrom (r .lost) up i)
+      (own-is : own ≡ heardFrom (r .lost) (up t) i)
       (clock-is : clock ≡ placeClock t (y .base) (y .clock))
       (lease-is : lease ≡ leaseClock (y .base) (y .lease))
       (approved-is : approved ≡ bit (r .flags) 0)
       (m-is : m ≡ baseMove t approved last own (y .base) clock lease)
       (lost-is : lost ≡ bit (r .flags) 1)
-      (devices-is : devices ≡ sweep (t .N) (settledBy (p .slots) lost (r .willing) (m .down)) up)
+      (left-is : left ≡ sweep (t .N) (λ j d. gone (risenBy (p .Q) (t .N) (p .slots) (r .command) j d)) (y .devices))
+      (devices-is : devices ≡ sweep (t .N) (deliveredBy (p .slots) lost (r .willing) (m .down)) left)
     where
-      up-risen : up ≡ risen p y r .devices
-      up-risen = up-is ∙ rw t-is (sym rises)
+      up-risen : up t ≡ risen p y r .devices
+      up-risen = rw t-is (sym rises)
 
       m-turn : m ≡ turn p y r
       unfolding device
       m-turn = m-is ∙ rw (last-is, own-is, up-risen, i-is, clock-is, lease-is, approved-is, t-is)
 
       devices-settled : devices ≡ tick p y r .devices
-      devices-settled = devices-is ∙ rw (t-is, lost-is, m-turn, up-risen) (sym settles)
+      devices-settled =
+          let f = risenBy (p .Q) (t .N) (p .slots) (r .command) in
+          let g = deliveredBy (p .slots) lost (r .willing) (m .down) in
+          devices-is
+          ∙ rw left-is (sweep-both (λ j d. gone (f j d)) g (t .N) (y .devices))
+          ∙ sym (sweep-both f (λ j d. g j (gone d)) (t .N) (y .devices))
+          ∙ rw (up-risen, t-is, lost-is, m-turn) (sym settles)
 
       -- The yard and the down letter that it answers.
       pub ticked :

@@ -2,20 +2,25 @@
 use Prim.Native.Nat.{ℕ, _+_, _-_, _≤_, _<_}
 use native.Mathlib.Omega.{arith}
 use mathlib.Core.Path.{_≡_, refl, sym, _∙_, ap}
-use mathlib.Core.Bool.{Bool, cond}
+use mathlib.Core.Bool.{Bool, true, false, cond}
 use mathlib.Core.List.{List}
-use lib.Dec.{eqb}
-use lib.ListN.{length, getD, set}
+use lib.Dec.{leb, eqb}
+use lib.Seq.{ext-getD, getD-set-same, getD-set-other}
+use borrow.Author.Tests.{eqb-true, eqb-false, eq-eqb, ne-eqb, le-leb, leb-true, leb-false, lt-leb}
+use lib.ListN.{length, getD, set, length-set}
 use Rattle.laws.specs.Bits.{bit}
-use Rattle.laws.proofs.Lists.{tabulate-back, swept-length, swept-none, swept-rest, swept-next}
+use Rattle.laws.proofs.Tests.{tests, case}
+use Rattle.laws.proofs.Lists.{tabulate-at, tabulate-same, tabulate-back, swept-length, swept-none, swept-rest, swept-next}
 use Rattle.rules.specs.declared.Slot.{Slot}
 use Rattle.rules.specs.declared.Device.{Device}
 use Rattle.rules.specs.declared.Down.{Down}
+use Rattle.rules.specs.declared.Down.the-variants as down
+use Rattle.rules.specs.declared.Letter.{Letter}
 use Rattle.rules.specs.Plan.{emptySlot}
 use Rattle.rules.specs.Yard.{freshDevice}
 use Rattle.rules.specs.Tick.Step2.{moved}
 use Rattle.rules.specs.Tick.Step4.{arrived}
-use Rattle.yard.specs.Sweep.{slotAt, deviceAt, sweep, clockedBy, risenBy, gone, settledBy}
+use Rattle.yard.specs.Sweep.{slotAt, deviceAt, sweep, clockedBy, risenBy, deliveredBy, downIndex}
 
 -- Device k + 1 stands at place k.
 back : (k : ℕ) → k + 1 - 1 ≡ k
@@ -46,8 +51,111 @@ pub risen-at :
     ≡ moved Q (getD slots k emptySlot) (eqb (k + 1) n) command (clockedBy (getD slots k emptySlot) d)
 risen-at Q n slots command k d = rw (back k)
 
-pub settled-at :
-    (slots : List Slot) (lost : Bool) (willing : ℕ) (l : Down) (k : ℕ) (d : Device)
-    → settledBy slots lost willing l (k + 1) d
-    ≡ cond lost (gone d) (arrived (getD slots k emptySlot) (bit willing k) l (k + 1) (gone d))
-settled-at slots lost willing l k d = rw (back k)
+-- Two passes, one after the other, are one pass of both.
+module _ (f g : ℕ → Device → Device) (n : ℕ) (ds : List Device) where
+  pub sweep-at : (i : ℕ) → 1 ≤ i → i ≤ 8 → deviceAt (sweep n f ds) i ≡ cond (leb i n) (f i (deviceAt ds i)) (deviceAt ds i)
+  sweep-at i low high = tabulate-at _ 8 i freshDevice low high
+
+  pub sweep-both : sweep n g (sweep n f ds) ≡ sweep n (λ i d. g i (f i d)) ds
+  sweep-both = tabulate-same _ _ 8 at
+    where
+      at :
+          (i : ℕ) → 1 ≤ i → i ≤ 8
+          → cond (leb i n) (g i (deviceAt (sweep n f ds) i)) (deviceAt (sweep n f ds) i)
+          ≡ cond (leb i n) (g i (f i (deviceAt ds i))) (deviceAt ds i)
+      at i low high =
+          case (leb i n)
+          (λ q. rw q (ap (g i) (sweep-at i low high ∙ rw q)))
+          (λ q. rw q (sweep-at i low high ∙ rw q))
+
+-- The letter at a place, once the pass has gone one device further.
+pub letter-next :
+    (f : ℕ → Device → Device) (ds : List Device) (k a : ℕ) (x : Device) (before : Letter) → k < 8
+    → x ≡ f (k + 1) (getD ds k freshDevice)
+    → before ≡ getD (sweep k f ds) a freshDevice .letter
+    → cond (eqb k a) (x .letter) before ≡ getD (sweep (k + 1) f ds) a freshDevice .letter
+letter-next f ds k a x before h x-is before-is =
+    let next = sweep-next f ds k x h x-is in
+    case (eqb k a)
+    (λ q.
+    let same : k ≡ a = eqb-true k a q in
+    rw (q, ← next, ← same) (ap (λ (d : Device). d .letter) (sym (getD-set-same (sweep k f ds) k x freshDevice (omega (arith, sweep-length f ds k))))))
+    (λ q.
+    rw (q, ← next)
+    (before-is
+    ∙ ap (λ (d : Device). d .letter)
+    (sym (getD-set-other (sweep k f ds) k a x freshDevice (λ e. eqb-false k a q (sym e))))))
+
+-- Only the device that a letter is for heeds it.
+pub arrived-other :
+    (s : Slot) (willing : Bool) (l : Down) (i : ℕ) (d : Device) → 1 ≤ i → (i ≡ downIndex l → ⊥) → arrived s willing l i d ≡ d
+unfolding arrived
+arrived-other s willing down.None i d low other = refl
+arrived-other s willing (down.LeaseReq k) i d low other = rw (ne-eqb i k other)
+arrived-other s willing (down.Grant k) i d low other = rw (ne-eqb i k other)
+arrived-other s willing (down.Cancel k) i d low other = rw (ne-eqb i k other)
+arrived-other s willing (down.Abort k) i d low other = rw (ne-eqb i k other)
+
+-- A pass that leaves every device as it is, and one that changes a single one.
+module _ (f : ℕ → Device → Device) (n : ℕ) (ds : List Device) (eight : length ds ≡ 8) where
+  kept :
+      (k : ℕ) → k < 8 → (k + 1 ≤ n → f (k + 1) (deviceAt ds (k + 1)) ≡ deviceAt ds (k + 1))
+      → getD (sweep n f ds) k freshDevice ≡ getD ds k freshDevice
+  kept k h same =
+      let here : deviceAt (sweep n f ds) (k + 1) ≡ deviceAt ds (k + 1) =
+      sweep-at f f n ds (k + 1) (omega arith) (omega arith)
+      ∙ case (leb (k + 1) n) (λ q. rw q (same (leb-true _ _ q))) (λ q. rw q) in
+      rw (back k) at here
+
+  pub sweep-still : ((i : ℕ) → 1 ≤ i → i ≤ n → f i (deviceAt ds i) ≡ deviceAt ds i) → ds ≡ sweep n f ds
+  sweep-still same =
+      ext-getD freshDevice ds _ (eight ∙ sym (sweep-length f ds n))
+      (λ k h. sym (kept k (omega (arith, eight)) (λ in-n. same (k + 1) (omega arith) in-n)))
+
+  pub sweep-one :
+      (j : ℕ) (x : Device) → 1 ≤ j → j ≤ n → j ≤ 8 → x ≡ f j (deviceAt ds j)
+      → ((i : ℕ) → 1 ≤ i → (i ≡ j → ⊥) → f i (deviceAt ds i) ≡ deviceAt ds i)
+      → set ds (j - 1) x ≡ sweep n f ds
+  sweep-one j x low high few x-is same =
+      ext-getD freshDevice _ _ (length-set ds (j - 1) x ∙ eight ∙ sym (sweep-length f ds n))
+      (λ k in-set.
+      let in-8 : k < 8 = omega (arith, length-set ds (j - 1) x, eight) in
+      case (eqb k (j - 1))
+      (λ q.
+      let here : k ≡ j - 1 = eqb-true k (j - 1) q in
+      rw here
+      (getD-set-same ds (j - 1) x freshDevice (omega (arith, eight))
+      ∙ x-is
+      ∙ sym (sweep-at f f n ds j low few ∙ rw (le-leb j n high))))
+      (λ q.
+      getD-set-other ds (j - 1) k x freshDevice (eqb-false k (j - 1) q)
+      ∙ sym (kept k in-8 (λ in-n. same (k + 1) (omega arith) (λ e. eqb-false k (j - 1) q (omega arith))))))
+
+-- Step 4: the letter is lost, or is for none of the n devices, or is for one of them.
+module _
+    (slots : List Slot) (lost : Bool) (willing : ℕ) (l : Down) (n i : ℕ) (ds : List Device)
+    (eight : length ds ≡ 8) (i-is : i ≡ downIndex l)
+  where
+    abbrev delivers : ℕ → Device → Device
+    delivers = deliveredBy slots lost willing l
+
+    passes : (j : ℕ) → 1 ≤ j → (j ≡ i → ⊥) → delivers j (deviceAt ds j) ≡ deviceAt ds j
+    passes j low other =
+        case lost (λ q. rw q)
+        (λ q. rw q (arrived-other (slotAt slots j) (bit willing (j - 1)) l j (deviceAt ds j) low (λ e. other (e ∙ sym i-is))))
+
+    pub lost-letter : lost ≡ true → ds ≡ sweep n delivers ds
+    lost-letter e = sweep-still delivers n ds eight (λ j low high. rw e)
+
+    pub for-none : i ≡ 0 → ds ≡ sweep n delivers ds
+    for-none e = sweep-still delivers n ds eight (λ j low high. passes j low (λ same. omega arith))
+
+    pub for-another : n < i → ds ≡ sweep n delivers ds
+    for-another h = sweep-still delivers n ds eight (λ j low high. passes j low (λ same. omega arith))
+
+    pub reaches :
+        (x : Device) → lost ≡ false → (i ≡ 0 → ⊥) → i ≤ n → n ≤ 8
+        → x ≡ arrived (slotAt slots i) (bit willing (i - 1)) l i (deviceAt ds i)
+        → set ds (i - 1) x ≡ sweep n delivers ds
+    reaches x kept-up some high few x-is =
+        sweep-one delivers n ds eight i x (omega arith) high (omega arith) (x-is ∙ rw kept-up) passes

@@ -1,4 +1,5 @@
 pub mod Sweep
+pub mod Risen
 pub mod Ready
 pub mod Sent
 pub mod Refusals

@@ -17,56 +17,98 @@ ghost use mathlib.Core.Path.{_≡_};
 ghost use mathlib.Core.Bool.{cond};
 ghost use Prim.Native.Nat.{ℕ, _+_, _-_, _≤_, _<_};
 ghost use lib.ListN.{getD};
-ghost use Rattle.rules.specs.Plan.{emptySlot, terms};
+ghost use Rattle.rules.specs.declared.Letter.the-variants as letters;
+ghost use Rattle.rules.specs.Plan.{terms};
 ghost use Rattle.rules.specs.Yard.{freshDevice, engaged};
 ghost use Rattle.rules.specs.Tick.{sent, tick};
 ghost use Rattle.rules.specs.Tick.Step3.{baseIndex};
-ghost use Rattle.rules.specs.Tick.Step4.{arrived};
 ghost use Rattle.yard.specs.Ready.{Ready};
-ghost use Rattle.yard.specs.Sweep.{sweep, risenBy, settledBy, heardFrom, gone, byteOf};
+ghost use Rattle.yard.specs.Sweep.{sweep, risenBy, deliveredBy, downIndex, gone, byteOf};
+ghost use Rattle.yard.specs.Risen.{Rises};
 
-// Steps 1 and 2: each of the n devices moves its clock on and makes its own move.
+// The letter looked for: this device's where the pass has come to it, else the one found so far.
+fn found(here: bool, letter: Letter, before: Letter) -> Letter
+    ensures { λ r. ⌜ r ≡ cond here letter before ⌝ }
+{
+    if here {
+        return letter;
+    }
+    before
+}
+
+// The devices once their letters have gone up, and two of those letters, lost or not: the initializer's, and that of the
+// device that the supervisor stands at.
+pub(crate) struct Risen {
+    pub devices: [Device; 8],
+    pub last: Letter,
+    pub own: Letter,
+}
+
+// Steps 1 and 2 and the letters of step 3, in one pass: each of the n devices moves its clock on, makes its own move and is
+// left without a letter. What stood at the places `last` and `own` is kept for the supervisor.
 pub(crate) fn rise(
     q: u16,
     n: u8,
     slots: [Slot; 8],
     command: u8,
+    last: usize,
+    own: usize,
     devices: [Device; 8],
-) -> [Device; 8]
-    requires { ⌜ (n ≤ 8) × ((k : ℕ) → k < 8 → getD devices k freshDevice .clock ≤ 36000) ⌝ }
-    ensures { λ r. ⌜ r ≡ sweep n (risenBy q n slots command) devices ⌝ }
+) -> Risen
+    requires { ⌜ (n ≤ 8) × (last < 8) × (own < 8) × ((k : ℕ) → k < 8 → getD devices k freshDevice .clock ≤ 36000) ⌝ }
+    ensures { λ r. ⌜ Rises (risenBy q n slots command) n last own devices r ⌝ }
 {
     let mut now = devices;
+    let at_last = now[last];
+    let at_own = now[own];
+    let mut from_last = at_last.letter;
+    let mut from_own = at_own.letter;
     let mut k: u8 = 0;
     while k < n {
         let at = k as usize;
         let s = slots[at];
-        let last = k + 1 == n;
         let d = clocked(s, now[at]);
-        now[at] = device::moved(q, s, last, command, d);
+        let m = device::moved(q, s, k + 1 == n, command, d);
+        let letter = m.letter;
+        now[at] = without_letter(m);
+        from_last = found(at == last, letter, from_last);
+        from_own = found(at == own, letter, from_own);
         k += 1;
     }
-    now
+    Risen {
+        devices: now,
+        last: from_last,
+        own: from_own,
+    }
 }
 
-// A device whose letter has gone up, when the down letter has arrived or been lost.
-fn settled(lost: bool, s: Slot, willing: bool, l: Down, i: u8, d: Device) -> Device
-    ensures { λ r. ⌜ r ≡ cond lost (gone d) (arrived s willing l i (gone d)) ⌝ }
+// A device whose letter has gone up.
+fn without_letter(d: Device) -> Device
+    ensures { λ r. ⌜ r ≡ gone d ⌝ }
 {
     let place = d.place;
-    let quiet = Device {
+    Device {
         clock: d.clock,
         place,
         letter: Letter::None,
-    };
-    if lost {
-        return quiet;
     }
-    device::arrived(s, willing, l, i, quiet)
 }
 
-// The end of step 3 and step 4: all letters are gone, and the down letter reaches the device that it is for.
-pub(crate) fn settle(
+// The device that a down letter is for; 0 for none.
+fn down_index(l: Down) -> u8
+    ensures { λ r. ⌜ r ≡ downIndex l ⌝ }
+{
+    match l {
+        Down::None => 0,
+        Down::LeaseReq(i) => i,
+        Down::Grant(i) => i,
+        Down::Cancel(i) => i,
+        Down::Abort(i) => i,
+    }
+}
+
+// Step 4: the down letter reaches the device that it is for, and no other.
+pub(crate) fn arrive(
     n: u8,
     slots: [Slot; 8],
     lost: bool,
@@ -75,16 +117,22 @@ pub(crate) fn settle(
     devices: [Device; 8],
 ) -> [Device; 8]
     requires { ⌜ n ≤ 8 ⌝ }
-    ensures { λ r. ⌜ r ≡ sweep n (settledBy slots lost willing l) devices ⌝ }
+    ensures { λ r. ⌜ r ≡ sweep n (deliveredBy slots lost willing l) devices ⌝ }
 {
-    let mut now = devices;
-    let mut k: u8 = 0;
-    while k < n {
-        let at = k as usize;
-        let asked = bit(willing, at);
-        now[at] = settled(lost, slots[at], asked, l, k + 1, now[at]);
-        k += 1;
+    let i = down_index(l);
+    if lost {
+        return devices;
     }
+    if i == 0 {
+        return devices;
+    }
+    if n < i {
+        return devices;
+    }
+    let mut now = devices;
+    let at = place_of(i);
+    let asked = bit(willing, at);
+    now[at] = device::arrived(slots[at], asked, l, i, now[at]);
     now
 }
 
@@ -99,17 +147,14 @@ fn place_of(i: u8) -> usize
     (i - 1) as usize
 }
 
-// What the supervisor hears from device i.
-pub(crate) fn heard(lost: u8, i: u8, devices: [Device; 8]) -> Letter
-    requires { ⌜ i ≤ 8 ⌝ }
-    ensures { λ r. ⌜ r ≡ heardFrom lost devices i ⌝ }
+// What the supervisor hears of a letter that went up.
+fn heard(lost: bool, letter: Letter) -> Letter
+    ensures { λ r. ⌜ r ≡ cond lost letters.None letter ⌝ }
 {
-    let at = place_of(i);
-    if bit(lost, at) {
+    if lost {
         return Letter::None;
     }
-    let d = devices[at];
-    d.letter
+    letter
 }
 
 fn is_engaged(place: Place) -> bool
@@ -200,15 +245,24 @@ pub(crate) fn one_tick(p: Plan, t: Terms, y: Yard, r: Record) -> Stepped
     let n = t.N;
     let base = y.base;
     let start = y.devices;
-    let up = rise(p.Q, n, slots, r.command, start);
-    let last = heard(r.lost, n, up);
-    let own = heard(r.lost, base_index(base), up);
-    let clock = place_clock(t, base, y.clock);
-    let lease = lease_clock(base, y.lease);
-    let m = base::base_move(t, bit(r.flags, 0), last, own, base, clock, lease);
+    let last = place_of(n);
+    let own = place_of(base_index(base));
+    let up = rise(p.Q, n, slots, r.command, last, own, start);
+    let from_last = up.last;
+    let from_own = up.own;
+    let risen = up.devices;
+    let m = base::base_move(
+        t,
+        bit(r.flags, 0),
+        heard(bit(r.lost, last), from_last),
+        heard(bit(r.lost, own), from_own),
+        base,
+        place_clock(t, base, y.clock),
+        lease_clock(base, y.lease),
+    );
     let down = m.down;
     let place = m.base;
-    let devices = settle(n, slots, bit(r.flags, 1), r.willing, down, up);
+    let devices = arrive(n, slots, bit(r.flags, 1), r.willing, down, risen);
     let yard = Yard {
         base: place,
         clock: m.clock,
