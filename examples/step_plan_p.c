@@ -1,5 +1,5 @@
-/* Steps plan P of document 01 through the ten records of its first roll, tick by tick, and prints each line with code of
- * its own; the library's own listing of the same roll must read the same. Then a plan that is refused.
+/* Steps plan P of document 01 through the ten records of its first roll, tick by tick, and prints each line with code
+ * of its own; the library's own listing of the same roll must read the same. Then a plan that is refused.
  *
  *     cc -Wall -Wextra -Werror -o step_plan_p examples/step_plan_p.c -Iinclude target/staticlib/libexports.a
  */
@@ -35,7 +35,8 @@ static void make_roll(uint8_t roll[4 * TICKS])
 }
 
 /* One line: tick, base, devices, down letter with `!` if it was lost. Answers its length. */
-static size_t write_line(char *line, int tick, const uint8_t yard[WILATKHUN_YARD], uint8_t down, uint8_t device, int lost)
+static size_t write_line(char *line, int tick, const uint8_t yard[WILATKHUN_YARD], uint8_t down, uint8_t device,
+                         int lost)
 {
     int at = sprintf(line, "%d %c", tick, "FLCA"[yard[0]]);
     if (yard[0] != 0)
@@ -58,7 +59,8 @@ static size_t step(const uint8_t *plan, const uint8_t *roll, char *text)
         return 0;
     for (int k = 0; k < TICKS; k++) {
         const uint8_t *r = roll + 4 * k;
-        if (wilatkhun_tick(plan, WILATKHUN_PLAN, yard, sizeof yard, r[0], r[1], r[2], r[3], &down, &device, &index) != 0)
+        if (wilatkhun_tick(plan, WILATKHUN_PLAN, yard, sizeof yard, r[0], r[1], r[2], r[3], &down, &device,
+                           &index) != 0)
             return 0;
         length += write_line(text + length, k + 1, yard, down, device, r[1] & 2);
     }
@@ -72,8 +74,8 @@ static size_t list(const uint8_t *plan, const uint8_t *roll, char *text, size_t 
     size_t index, ticks, length;
     if (wilatkhun_fresh(plan, WILATKHUN_PLAN, yard, sizeof yard, &index) != 0)
         return 0;
-    if (wilatkhun_list(plan, WILATKHUN_PLAN, yard, sizeof yard, roll, 4 * TICKS, 0, (uint8_t *)text, room, &ticks, &length,
-                       &index) != 0)
+    if (wilatkhun_list(plan, WILATKHUN_PLAN, yard, sizeof yard, roll, 4 * TICKS, 0, (uint8_t *)text, room, &ticks,
+                       &length, &index) != 0)
         return 0;
     return ticks == TICKS ? length : 0;
 }
