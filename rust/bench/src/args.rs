@@ -7,8 +7,8 @@ bench --names
 
 Times the library beside plain Rust (`model::plain`) in one process, library and plain in turns, each measurement 20 ms
 or longer. Before it is timed, every contest is run on both sides and the answers are compared byte for byte. Prints the
-medians, their ratio in time (library/plain, below 1 when the library is faster), and the least and greatest ratio of
-the pairs.
+medians, their ratio in time (library/plain, below 1 when the library is faster), the least and greatest ratio of the
+pairs, and for how much of the time the process was on a processor: well below 100%, the line was disturbed.
 
   --runs R     pairs of measurements; 31 if not given
   --only NAME  this contest alone; --names prints all. A name's beginning takes all that begin so.

@@ -34,6 +34,18 @@ pub struct Result {
     pub ratio: f64,
     pub least: f64,
     pub greatest: f64,
+    /// The share of the time on the clock in which this process ran, where the machine tells. Pauses fall on one side
+    /// of one pair: with a low share, least and greatest say little.
+    pub on_cpu: Option<f64>,
+}
+
+/// Seconds of processor time that this process has used, in hundredths: fields 14 and 15 of Linux's `stat`.
+fn cpu_seconds() -> Option<f64> {
+    let text = std::fs::read_to_string("/proc/self/stat").ok()?;
+    // The name, in parentheses, may have spaces in it.
+    let (_, after_name) = text.rsplit_once(')')?;
+    let hundredths: Vec<f64> = after_name.split_whitespace().skip(11).take(2).flat_map(str::parse).collect();
+    (hundredths.len() == 2).then(|| hundredths.iter().sum::<f64>() / 100.0)
 }
 
 fn timed(side: &mut Side, loops: u32) -> Duration {
@@ -74,10 +86,12 @@ impl Contest {
         let (library_loops, plain_loops) = (loops_of(&mut self.library), loops_of(&mut self.plain));
         let each = |took: Duration, loops: u32, items: usize| took.as_nanos() as f64 / (loops as f64 * items as f64);
         let (mut library, mut plain) = (Vec::new(), Vec::new());
+        let (start, cpu) = (Instant::now(), cpu_seconds());
         for _ in 0..runs.max(1) {
             library.push(each(timed(&mut self.library, library_loops), library_loops, self.items));
             plain.push(each(timed(&mut self.plain, plain_loops), plain_loops, self.items));
         }
+        let on_cpu = cpu.zip(cpu_seconds()).map(|(before, after)| (after - before) / start.elapsed().as_secs_f64());
         let ratios: Vec<f64> = library.iter().zip(&plain).map(|(a, b)| a / b).collect();
         let (library, plain) = (median(&library), median(&plain));
         Result {
@@ -86,6 +100,7 @@ impl Contest {
             ratio: library / plain,
             least: ratios.iter().copied().fold(f64::MAX, f64::min),
             greatest: ratios.iter().copied().fold(0.0, f64::max),
+            on_cpu,
         }
     }
 }

@@ -50,7 +50,10 @@ fn measure(asked: &Asked) -> Result<(), String> {
         return alone(&chosen, side, asked.loops);
     }
     println!("{} pairs of measurements each; load before: {}", asked.runs, load());
-    println!("{:<24} {:>10} {:>10} {:>10} {:>7} {:>7} {:>8}", "", "", "library", "plain", "ratio", "least", "greatest");
+    println!(
+        "{:<24} {:>10} {:>10} {:>10} {:>7} {:>7} {:>8} {:>7}",
+        "", "", "library", "plain", "ratio", "least", "greatest", "on cpu"
+    );
     let mut notes: Vec<String> = Vec::new();
     for (name, make) in &chosen {
         let note = one(name, make, asked.runs)?;
@@ -68,13 +71,14 @@ fn one(name: &str, make: &Make, runs: usize) -> Result<String, String> {
     }
     let result = contest.measure(runs);
     println!(
-        "{name:<24} {:>10} {:>10} {:>10} {:>7.2} {:>7.2} {:>8.2}",
+        "{name:<24} {:>10} {:>10} {:>10} {:>7.2} {:>7.2} {:>8.2} {:>7}",
         contest.unit.name(),
         contest.unit.told(result.library),
         contest.unit.told(result.plain),
         result.ratio,
         result.least,
-        result.greatest
+        result.greatest,
+        result.on_cpu.map_or("?".to_string(), |share| format!("{:.0}%", 100.0 * share)),
     );
     Ok(contest.note)
 }
