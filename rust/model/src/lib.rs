@@ -1,0 +1,23 @@
+//! A model of the yard of document 01, in plain Rust, written from its words alone.
+//!
+//! The clear half (`check`, `yard`, `file`, `listing`) follows the specification sentence by sentence, for comparison.
+//! `watch` holds a history against demand 3, `gen` makes cases from seeds, `plain` gives the same answers at speed.
+#![forbid(unsafe_code)]
+
+pub mod bytes;
+pub mod check;
+pub mod file;
+pub mod gen;
+pub mod listing;
+pub mod plain;
+mod steps;
+mod supervisor;
+pub mod types;
+pub mod watch;
+pub mod yard;
+
+pub use check::check;
+pub use file::{find, read, Piece};
+pub use types::{Base, Device, Down, Letter, Place, Plan, Record, Slot, Verdict, Yard};
+pub use watch::Watch;
+pub use yard::{fresh, run, tick, well_formed};
