@@ -5,7 +5,7 @@ use mathlib.Core.List.{List}
 use lib.ListN.{getD}
 use Rattle.rules.specs.declared.Device.{Device}
 use Rattle.rules.specs.Yard.{freshDevice}
-use Rattle.yard.specs.declared.step.Risen.{Risen}
+use Rattle.yard.specs.declared.devices.Risen.{Risen}
 use Rattle.yard.specs.Sweep.{sweep, gone}
 
 pub record Rises (f : ℕ → Device → Device) (n a b : ℕ) (ds : List Device) (r : Risen) : Type 0 where

@@ -1,6 +1,7 @@
 // The yard's calls: a fresh yard, one tick, a run. No public function here has a `requires`.
 mod bits;
 mod clocks;
+mod devices;
 mod engine;
 pub mod roll;
 mod step;

@@ -2,8 +2,8 @@ use native.Mathlib.Omega.{arith}
 use mathlib.Core.Path.{_∙_}
 use Rattle.yard.proofs.Sweeps.{lost-letter, for-none, for-another, reaches}
 use borrow.Author.Needs.{needs}
-use Rattle.yard.proofs.step.arrive.Statement.{statement}
-use Rattle.yard.proofs.step.arrive.Tie as tie
+use Rattle.yard.proofs.devices.arrive.Statement.{statement}
+use Rattle.yard.proofs.devices.arrive.Tie as tie
 
 down-index-requires : tie.Need-down-index-requires
 down-index-requires c κs = search needs

@@ -8,8 +8,8 @@ use Rattle.rules.specs.declared.Device.{Device}
 use Rattle.rules.specs.Yard.{freshDevice}
 use Rattle.yard.specs.Sweep.{sweep, risenBy, gone}
 use Rattle.yard.proofs.Sweeps.{sweep-start, sweep-here, sweep-next, risen-at, letter-next}
-use Rattle.yard.proofs.step.rise.Statement.{statement}
-use Rattle.yard.proofs.step.rise.Tie as tie
+use Rattle.yard.proofs.devices.rise.Statement.{statement}
+use Rattle.yard.proofs.devices.rise.Tie as tie
 
 abbrev Inv-loop : tie.InvT-loop
 Inv-loop q n command last own slots now₀ from-last₀ from-own₀ k₀ now from-last from-own k =
