@@ -67,4 +67,4 @@ ready p y e w =
     let a = accepted-exactly p .0 e in
     let f = formed-is p y w in
     let b = based-ready p a (y .base) (y .clock) (y .lease) (f .based) in
-    record { few = a .devices .1; index = b .0; clock = b .1; lease = b .2; clocks = at-place p a y f }
+    record { some = omega (arith, a .devices .0); few = a .devices .1; index = b .0; clock = b .1; lease = b .2; clocks = at-place p a y f }

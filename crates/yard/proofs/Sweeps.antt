@@ -44,12 +44,21 @@ module _ (f : ℕ → Device → Device) (ds : List Device) where
       swept-next (λ i. f i (deviceAt ds i)) (deviceAt ds) 8 k x freshDevice h
       (e ∙ ap (λ (j : ℕ). f (k + 1) (getD ds j freshDevice)) (sym (back k)))
 
--- What each pass does to device k + 1, with its slot at place k.
-pub risen-at :
-    (Q n : ℕ) (slots : List Slot) (command k : ℕ) (d : Device)
-    → risenBy Q n slots command (k + 1) d
-    ≡ moved Q (getD slots k emptySlot) (eqb (k + 1) n) command (clockedBy (getD slots k emptySlot) d)
-risen-at Q n slots command k d = rw (back k)
+-- What the pass does to the device at place k, with its slot there.
+module _ (Q last : ℕ) (slots : List Slot) (command : ℕ) (d : Device) where
+  -- A participant, whatever command it is handed.
+  pub risen-participant :
+      (k : ℕ) → k < last
+      → moved Q (getD slots k emptySlot) false 0 (clockedBy (getD slots k emptySlot) d)
+      ≡ risenBy Q (last + 1) slots command (k + 1) d
+  unfolding moved
+  risen-participant k h = rw (back k, ne-eqb (k + 1) (last + 1) (λ e. omega arith))
+
+  -- The initializer.
+  pub risen-initializer :
+      moved Q (getD slots last emptySlot) true command (clockedBy (getD slots last emptySlot) d)
+      ≡ risenBy Q (last + 1) slots command (last + 1) d
+  risen-initializer = rw (back last, eq-eqb (last + 1) (last + 1) refl)
 
 -- Two passes, one after the other, are one pass of both.
 module _ (f g : ℕ → Device → Device) (n : ℕ) (ds : List Device) where

@@ -7,6 +7,7 @@ use Rattle.rules.specs.Yard.{freshDevice}
 use Rattle.rules.specs.Tick.Step3.{baseIndex}
 
 pub record Ready (p : Plan) (y : Yard) : Type 0 where
+  pub some : 1 ≤ p .N
   pub few : p .N ≤ 8
   pub index : baseIndex (y .base) ≤ 8
   pub clock : y .clock ≤ 36000

@@ -7,7 +7,7 @@ use rules::Letter;
 use rules::Slot;
 ghost use mathlib.Core.Path.{_≡_};
 ghost use mathlib.Core.Bool.{cond};
-ghost use Prim.Native.Nat.{ℕ, _-_, _≤_, _<_};
+ghost use Prim.Native.Nat.{ℕ, _+_, _-_, _≤_, _<_};
 ghost use lib.ListN.{getD};
 ghost use Rattle.rules.specs.Yard.{freshDevice};
 ghost use Rattle.yard.specs.Sweep.{sweep, risenBy, deliveredBy, downIndex, gone};
@@ -31,41 +31,43 @@ pub(crate) struct Risen {
     pub own: Letter,
 }
 
-// Steps 1 and 2 and the letters of step 3, in one pass: each of the n devices moves its clock on, makes its own move and is
-// left without a letter. What stood at the places `last` and `own` is kept for the supervisor.
+// Steps 1 and 2 and the letters of step 3, in one pass: each device moves its clock on, makes its own move and is left
+// without a letter. The initializer, at the place `last`, comes last and alone heeds the command; its letter and that of the
+// place `own` are kept for the supervisor.
 pub(crate) fn rise(
     q: u16,
-    n: u8,
     slots: [Slot; 8],
     command: u8,
     last: usize,
     own: usize,
     devices: [Device; 8],
 ) -> Risen
-    requires { ⌜ (n ≤ 8) × (last < 8) × (own < 8) × ((k : ℕ) → k < 8 → getD devices k freshDevice .clock ≤ 36000) ⌝ }
-    ensures { λ r. ⌜ Rises (risenBy q n slots command) n last own devices r ⌝ }
+    requires { ⌜ (last < 8) × (own < 8) × ((k : ℕ) → k < 8 → getD devices k freshDevice .clock ≤ 36000) ⌝ }
+    ensures { λ r. ⌜ Rises (risenBy q (last + 1) slots command) (last + 1) last own devices r ⌝ }
 {
     let mut now = devices;
-    let at_last = now[last];
     let at_own = now[own];
-    let mut from_last = at_last.letter;
     let mut from_own = at_own.letter;
-    let mut k: u8 = 0;
-    while k < n {
-        let at = k as usize;
-        let s = slots[at];
-        let d = clocked(s, now[at]);
-        let m = device::moved(q, s, k + 1 == n, command, d);
+    let mut k: usize = 0;
+    while k < last {
+        let s = slots[k];
+        let d = clocked(s, now[k]);
+        let m = device::moved(q, s, false, 0, d);
         let letter = m.letter;
-        now[at] = without_letter(m);
-        from_last = found(at == last, letter, from_last);
-        from_own = found(at == own, letter, from_own);
+        now[k] = without_letter(m);
+        from_own = found(k == own, letter, from_own);
         k += 1;
     }
+    let s = slots[last];
+    let d = clocked(s, now[last]);
+    let m = device::moved(q, s, true, command, d);
+    let from_last = m.letter;
+    now[last] = without_letter(m);
+    let own_letter = found(last == own, from_last, from_own);
     Risen {
         devices: now,
         last: from_last,
-        own: from_own,
+        own: own_letter,
     }
 }
 

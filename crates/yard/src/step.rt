@@ -125,7 +125,7 @@ pub(crate) fn one_tick(p: Plan, t: Terms, y: Yard, r: Record) -> Stepped
     let start = y.devices;
     let last = place_of(n);
     let own = place_of(base_index(base));
-    let up = rise(p.Q, n, slots, r.command, last, own, start);
+    let up = rise(p.Q, slots, r.command, last, own, start);
     let from_last = up.last;
     let from_own = up.own;
     let risen = up.devices;

@@ -1,31 +1,25 @@
 use Prim.Native.Nat.{ℕ, _+_, _-_, _≤_, _<_}
 use native.Mathlib.Omega.{arith}
-use mathlib.Core.Path.{_≡_, sym, _∙_, ap}
+use mathlib.Core.Path.{_≡_, refl, _∙_, ap}
 use mathlib.Core.List.{List}
 use lib.ListN.{getD}
 use borrow.Author.Needs.{needs}
+use borrow.Author.Tests.{eq-eqb}
 use Rattle.rules.specs.declared.Device.{Device}
 use Rattle.rules.specs.Yard.{freshDevice}
 use Rattle.yard.specs.Sweep.{sweep, risenBy, gone}
-use Rattle.yard.proofs.Sweeps.{sweep-start, sweep-here, sweep-next, risen-at, letter-next}
+use Rattle.yard.proofs.Sweeps.{sweep-start, sweep-here, sweep-next, risen-participant, risen-initializer, letter-next}
 use Rattle.yard.proofs.devices.rise.Statement.{statement}
 use Rattle.yard.proofs.devices.rise.Tie as tie
 
 abbrev Inv-loop : tie.InvT-loop
-Inv-loop q n command last own slots now₀ from-last₀ from-own₀ k₀ now from-last from-own k =
-    (k ≤ n)
-    × (now ≡ sweep k (λ i d. gone (risenBy q n slots command i d)) now₀)
-    × (from-last ≡ getD (sweep k (risenBy q n slots command) now₀) last freshDevice .letter)
-    × (from-own ≡ getD (sweep k (risenBy q n slots command) now₀) own freshDevice .letter)
+Inv-loop q command last own slots now₀ from-own₀ k₀ now from-own k =
+    (k ≤ last)
+    × (now ≡ sweep k (λ i d. gone (risenBy q (last + 1) slots command i d)) now₀)
+    × (from-own ≡ getD (sweep k (risenBy q (last + 1) slots command) now₀) own freshDevice .letter)
 
 abbrev μ-loop : tie.MeasureT-loop
-μ-loop q n command last own slots now₀ from-last₀ from-own₀ k₀ now from-last from-own k = n - k
-
-mul-at-last : tie.Need-mul-at-last Inv-loop μ-loop
-mul-at-last c = search needs
-
-array-copy-out-at-last : tie.Need-array-copy-out-at-last Inv-loop μ-loop
-array-copy-out-at-last c = search needs
+μ-loop q command last own slots now₀ from-own₀ k₀ now from-own k = last - k
 
 mul-at-own : tie.Need-mul-at-own Inv-loop μ-loop
 mul-at-own c = search needs
@@ -35,18 +29,14 @@ array-copy-out-at-own c = search needs
 
 loop-holds : tie.Need-loop-holds Inv-loop μ-loop
 loop-holds c =
-    let f : ℕ → Device → Device = risenBy (c .before .before .args .q) (c .before .before .args .n) (c .before .before .args .t3) (c .before .before .args .command) in
+    let a = c .before .args in
+    let f : ℕ → Device → Device = risenBy (a .q) (a .last + 1) (a .t2) (a .command) in
     let left : ℕ → Device → Device = λ i d. gone (f i d) in
-    let ds : List Device = c .before .before .args .devices in
-    let start = sweep-start f ds (search needs) in (
+    let ds : List Device = a .devices in (
       omega arith,
       sweep-start left ds (search needs),
-      ap (λ (l : List Device). getD l (c .before .before .args .last) freshDevice .letter) start,
-      ap (λ (l : List Device). getD l (c .before .before .args .own) freshDevice .letter) start,
+      ap (λ (l : List Device). getD l (a .own) freshDevice .letter) (sweep-start f ds (search needs)),
     )
-
-cast-at : tie.Need-cast-at Inv-loop μ-loop
-cast-at c = search needs
 
 mul-s : tie.Need-mul-s Inv-loop μ-loop
 mul-s c = search needs
@@ -62,14 +52,12 @@ array-copy-out-clocked c = search needs
 
 clocked-requires : tie.Need-clocked-requires Inv-loop μ-loop
 clocked-requires c κs =
-    let f : ℕ → Device → Device = risenBy (c .before .before .before .before .before .before .args .q) (c .before .before .before .before .before .before .args .n) (c .before .before .before .before .before .before .args .t3) (c .before .before .before .before .before .before .args .command) in
+    let a = c .before .before .before .before .before .args in
+    let f : ℕ → Device → Device = risenBy (a .q) (a .last + 1) (a .t2) (a .command) in
     let left : ℕ → Device → Device = λ i d. gone (f i d) in
-    let ds : List Device = c .before .before .before .before .before .before .args .devices in
+    let ds : List Device = a .devices in
     let k : ℕ = c .before .before .before .loop .k in
-    rw (c .before .before .before .loop .inv .1, sweep-here left ds k (omega arith)) (c .before .before .before .before .before .before .pre .3 k (omega arith))
-
-add-moved : tie.Need-add-moved Inv-loop μ-loop
-add-moved c = search needs
+    rw (c .before .before .before .loop .inv .1, sweep-here left ds k (omega arith)) (c .before .before .before .before .before .pre .2 k (omega arith))
 
 moved-requires : tie.Need-moved-requires Inv-loop μ-loop
 moved-requires c κs = search needs
@@ -86,9 +74,6 @@ array-set-from-now c = search needs
 found-requires : tie.Need-found-requires Inv-loop μ-loop
 found-requires c κs = search needs
 
-found-requires-2 : tie.Need-found-requires-2 Inv-loop μ-loop
-found-requires-2 c κs = search needs
-
 add-k : tie.Need-add-k Inv-loop μ-loop
 add-k c = search needs
 
@@ -97,27 +82,81 @@ loop-less c = search needs
 
 loop-again : tie.Need-loop-again Inv-loop μ-loop
 loop-again c =
-    let f : ℕ → Device → Device = risenBy (c .before .before .before .before .before .before .before .before .before .before .before .args .q) (c .before .before .before .before .before .before .before .before .before .before .before .args .n) (c .before .before .before .before .before .before .before .before .before .before .before .args .t3) (c .before .before .before .before .before .before .before .before .before .before .before .args .command) in
+    let a = c .before .before .before .before .before .before .before .before .before .args in
+    let f : ℕ → Device → Device = risenBy (a .q) (a .last + 1) (a .t2) (a .command) in
     let left : ℕ → Device → Device = λ i d. gone (f i d) in
-    let ds : List Device = c .before .before .before .before .before .before .before .before .before .before .before .args .devices in
-    let k : ℕ = c .before .before .before .before .before .before .before .before .loop .k in
-    let inv = c .before .before .before .before .before .before .before .before .loop .inv in
+    let ds : List Device = a .devices in
+    let k : ℕ = c .before .before .before .before .before .before .before .loop .k in
+    let inv = c .before .before .before .before .before .before .before .loop .inv in
     let few : k < 8 = omega arith in
-    let moved : c .before .before .before .moved .result ≡ f (k + 1) (getD ds k freshDevice) =
-    c .before .before .before .moved .ensures
-    ∙ rw (c .before .before .before .before .clocked .ensures, inv .1, sweep-here left ds k few)
-    (sym (risen-at (c .before .before .before .before .before .before .before .before .before .before .before .args .q) (c .before .before .before .before .before .before .before .before .before .before .before .args .n) (c .before .before .before .before .before .before .before .before .before .before .before .args .t3) (c .before .before .before .before .before .before .before .before .before .before .before .args .command) k (getD ds k freshDevice))) in (
+    let moved : c .before .before .moved .result ≡ f (k + 1) (getD ds k freshDevice) =
+    c .before .before .moved .ensures
+    ∙ rw (c .before .before .before .clocked .ensures, inv .1, sweep-here left ds k few)
+    (risen-participant (a .q) (a .last) (a .t2) (a .command) (getD ds k freshDevice) k (omega arith)) in (
       omega arith,
-      rw (inv .1) (sweep-next left ds k (c .before .before .without-letter .result) few (c .before .before .without-letter .ensures ∙ ap gone moved)),
-      c .before .found .ensures ∙ letter-next f ds k (c .before .before .before .before .before .before .before .before .before .before .before .args .last) (c .before .before .before .moved .result) _ few moved (inv .2),
-      c .found2 .ensures ∙ letter-next f ds k (c .before .before .before .before .before .before .before .before .before .before .before .args .own) (c .before .before .before .moved .result) _ few moved (inv .3),
+      rw (inv .1) (sweep-next left ds k (c .before .without-letter .result) few (c .before .without-letter .ensures ∙ ap gone moved)),
+      c .found .ensures ∙ letter-next f ds k (a .own) (c .before .before .moved .result) _ few moved (inv .2),
     )
+
+mul-s-2 : tie.Need-mul-s-2 Inv-loop μ-loop
+mul-s-2 c = search needs
+
+array-copy-out-s-2 : tie.Need-array-copy-out-s-2 Inv-loop μ-loop
+array-copy-out-s-2 c = search needs
+
+mul-clocked-2 : tie.Need-mul-clocked-2 Inv-loop μ-loop
+mul-clocked-2 c = search needs
+
+array-copy-out-clocked-2 : tie.Need-array-copy-out-clocked-2 Inv-loop μ-loop
+array-copy-out-clocked-2 c = search needs
+
+clocked-requires-2 : tie.Need-clocked-requires-2 Inv-loop μ-loop
+clocked-requires-2 c κs =
+    let a = c .before .before .before .before .before .args in
+    let f : ℕ → Device → Device = risenBy (a .q) (a .last + 1) (a .t2) (a .command) in
+    let left : ℕ → Device → Device = λ i d. gone (f i d) in
+    let ds : List Device = a .devices in
+    let all : c .before .before .before .loop .k ≡ a .last = omega arith in
+    rw (c .before .before .before .loop .inv .1, all, sweep-here left ds (a .last) (omega arith)) (c .before .before .before .before .before .pre .2 (a .last) (omega arith))
+
+moved-requires-2 : tie.Need-moved-requires-2 Inv-loop μ-loop
+moved-requires-2 c κs = search needs
+
+without-letter-requires-2 : tie.Need-without-letter-requires-2 Inv-loop μ-loop
+without-letter-requires-2 c κs = search needs
+
+mul-now-2 : tie.Need-mul-now-2 Inv-loop μ-loop
+mul-now-2 c = search needs
+
+array-set-from-now-2 : tie.Need-array-set-from-now-2 Inv-loop μ-loop
+array-set-from-now-2 c = search needs
+
+found-requires-2 : tie.Need-found-requires-2 Inv-loop μ-loop
+found-requires-2 c κs = search needs
 
 returns : tie.Need-returns Inv-loop μ-loop
 returns c =
-    let inv = c .before .loop .inv in
-    let all : c .before .loop .k ≡ c .before .before .before .before .args .n = omega arith in
-    record { devices = rw all at (inv .1); last = rw all at (inv .2); own = rw all at (inv .3) }
+    let a = c .before .before .before .before .before .before .before .before .before .args in
+    let f : ℕ → Device → Device = risenBy (a .q) (a .last + 1) (a .t2) (a .command) in
+    let left : ℕ → Device → Device = λ i d. gone (f i d) in
+    let ds : List Device = a .devices in
+    let inv = c .before .before .before .before .before .before .before .loop .inv in
+    let all : c .before .before .before .before .before .before .before .loop .k ≡ a .last = omega arith in
+    let few : a .last < 8 = omega arith in
+    let now : c .before .before .before .before .before .before .before .loop .now ≡ sweep (a .last) left ds = rw all at (inv .1) in
+    let moved : c .before .before .moved2 .result ≡ f (a .last + 1) (getD ds (a .last) freshDevice) =
+    c .before .before .moved2 .ensures
+    ∙ rw (c .before .before .before .clocked2 .ensures, now, sweep-here left ds (a .last) few)
+    (risen-initializer (a .q) (a .last) (a .t2) (a .command) (getD ds (a .last) freshDevice)) in
+    record {
+      devices =
+          rw now
+          (sweep-next left ds (a .last) (c .before .without-letter2 .result) few (c .before .without-letter2 .ensures ∙ ap gone moved));
+      last =
+          rw (eq-eqb (a .last) (a .last) refl) at
+          (letter-next f ds (a .last) (a .last) (c .before .before .moved2 .result) (getD (sweep (a .last) f ds) (a .last) freshDevice .letter) few moved refl);
+      own = c .found2 .ensures ∙ letter-next f ds (a .last) (a .own) (c .before .before .moved2 .result) _ few moved (rw all at (inv .2));
+    }
 
 pub rise-spec : {M : Type 1} → statement M
 rise-spec =
@@ -125,25 +164,30 @@ rise-spec =
     (tie.spec
     Inv-loop
     μ-loop
-    mul-at-last
-    array-copy-out-at-last
     mul-at-own
     array-copy-out-at-own
     loop-holds
-    cast-at
     mul-s
     array-copy-out-s
     mul-clocked
     array-copy-out-clocked
     clocked-requires
-    add-moved
     moved-requires
     without-letter-requires
     mul-now
     array-set-from-now
     found-requires
-    found-requires-2
     add-k
     loop-less
     loop-again
+    mul-s-2
+    array-copy-out-s-2
+    mul-clocked-2
+    array-copy-out-clocked-2
+    clocked-requires-2
+    moved-requires-2
+    without-letter-requires-2
+    mul-now-2
+    array-set-from-now-2
+    found-requires-2
     returns)

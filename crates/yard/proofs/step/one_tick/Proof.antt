@@ -1,4 +1,7 @@
-use mathlib.Core.Path.{_∙_}
+use Prim.Native.Nat.{_+_}
+use native.Mathlib.Omega.{arith}
+use mathlib.Core.Path.{_≡_, _∙_, ap}
+use Rattle.rules.specs.declared.Terms.{Terms}
 use Rattle.rules.specs.declared.Plan.{Plan}
 use Rattle.rules.specs.declared.Yard.{Yard}
 use Rattle.rules.specs.declared.Record.{Record}
@@ -55,7 +58,8 @@ returns c =
     let p : Plan = start .args .p in
     let y : Yard = start .args .y in
     let r : Record = start .args .r in
-    let up = c .before .before .before .before .before .before .before .before .before .before .before .rise .ensures in
+    let all : c .before .before .before .before .before .before .before .before .before .before .before .before .before .before .place-of .result + 1 ≡ start .args .t .N = omega (arith, c .before .before .before .before .before .before .before .before .before .before .before .before .before .before .place-of .ensures .0, start .pre .0 .some, ap (λ (u : Terms). u .N) (start .pre .1)) in
+    let up = rw all at (c .before .before .before .before .before .before .before .before .before .before .before .rise .ensures) in
     ticked p y r _ (start .pre .1) _ _ _ _ _ _ _ _ _ _
     (c .before .before .before .before .before .before .before .heard .ensures ∙ rw (c .before .before .before .before .before .before .before .before .bit2 .ensures, up .last, c .before .before .before .before .before .before .before .before .before .before .before .before .before .before .place-of .ensures .0))
     (c .before .before .before .before .before .before .before .before .before .before .before .before .before .base-index .ensures)
