@@ -1,1 +1,4 @@
 pub mod Widths
+pub mod Pieces
+pub mod Plans
+pub mod Yards
