@@ -2,7 +2,7 @@
 use Prim.Native.Nat.{ℕ, _+_, _-_, _*_, _/_, _%_, _≤_, _<_}
 use native.Mathlib.Omega.{arith}
 use native.Mathlib.Nat.{mod-add-div}
-use mathlib.Core.Path.{_≡_, refl, sym, _∙_, ap}
+use mathlib.Core.Path.{_≡_, refl, _∙_}
 use mathlib.Core.Bool.{false}
 use mathlib.Core.List.{List, [], _∷_, _++_}
 use lib.Dec.{ltb}
@@ -24,7 +24,7 @@ use Rattle.layout.specs.Bytes.{twoBytes, fourBytes, deviceBytes, devices
 use Rattle.layout.specs.Reading.{deviceIn, devicesIn, yardIn, yardOf}
 use Rattle.layout.specs.Theorems.{YardBack}
 use Rattle.layout.proofs.Widths.{device-wide, yard-wide}
-use Rattle.layout.proofs.Pieces.{byte-stands, number-stands, first-stands, two-back}
+use Rattle.layout.proofs.Pieces.{byte-stands, first-stands, two-back}
 
 base-back : (b : Base) → baseOf (baseNumber b) (baseDevice b) ≡ b
 unfolding baseOf
@@ -83,8 +83,8 @@ module _ (y : Yard) where
   yard-is = refl
 
   module _ (i : ℕ) (low : 1 ≤ i) (high : i ≤ 8) where
-    byte : (j : ℕ) → j < 4 → getD (yardBytes y) (8 + 4 * (i - 1) + j) 0 ≡ getD (deviceBytes (device-of i)) j 0
-    byte j h =
+    pub device-byte : (j : ℕ) → j < 4 → getD (yardBytes y) (8 + 4 * (i - 1) + j) 0 ≡ getD (deviceBytes (device-of i)) j 0
+    device-byte j h =
         rw yard-is
         (byte-stands front 8 front-long (λ k. deviceBytes (device-of k)) 4 (λ k. device-wide (device-of k)) 8 i low high j h)
 
@@ -95,7 +95,7 @@ module _ (y : Yard) where
 
     device-back : deviceIn (yardBytes y) (8 + 4 * (i - 1)) ≡ device-of i
     unfolding deviceIn
-    device-back = rw (clock, byte 2 (omega arith), byte 3 (omega arith)) (device-again (device-of i))
+    device-back = rw (clock, device-byte 2 (omega arith), device-byte 3 (omega arith)) (device-again (device-of i))
 
   devices-back : length (y .devices) ≡ 8 → devicesIn (yardBytes y) ≡ y .devices
   unfolding devicesIn
