@@ -1,6 +1,7 @@
 -- A yard's bytes that are not malformed are given back.
 use Prim.Native.Nat.{ℕ, zero, suc, _+_, _-_, _*_, _/_, _%_, _≤_, _<_}
 use native.Mathlib.Omega.{arith}
+use native.Mathlib.Nat.{add-mul-mod-self-left, mod-eq-of-lt, add-mul-div-left, div-eq-of-lt}
 use mathlib.Core.Path.{_≡_, refl, sym, _∙_, ap}
 use mathlib.Core.List.{List}
 use lib.Dec.{leb, ltb}
@@ -48,6 +49,14 @@ letter-again (suc (suc (suc (suc zero)))) h = refl
 letter-again (suc (suc (suc (suc (suc zero))))) h = refl
 letter-again (suc (suc (suc (suc (suc (suc a)))))) h = absurd (omega arith)
 
+-- A number of two parts, the lower one below m.
+module _ (m a b : ℕ) (h : a < m) where
+  low-part : (a + m * b) % m ≡ a
+  low-part = add-mul-mod-self-left a m b ∙ mod-eq-of-lt h
+
+  high-part : (a + m * b) / m ≡ b
+  high-part = add-mul-div-left a b (omega arith) ∙ rw (div-eq-of-lt h) (omega arith)
+
 at-most : (a : ℕ) → (5 < a → ⊥) → a ≤ 5
 at-most a h = case (leb a 5) (leb-true a 5) (λ e. absurd (h (leb-false a 5 e)))
 
@@ -57,11 +66,19 @@ module _ (bytes : List ℕ) (small : (k : ℕ) → getD bytes k 0 < 256) where
       → getD (deviceBytes (deviceIn bytes at)) j 0 ≡ getD bytes (at + j) 0
   unfolding deviceBytes deviceIn deviceOf twoBytes num16
   piece-given at pl l zero h =
-      rw (le-ltb 5 (getD bytes (at + 2) 0) pl) (omega (arith, small at) ∙ ap (λ (k : ℕ). getD bytes k 0) {x = at} {y = at + 0} (omega arith))
-  piece-given at pl l (suc zero) h = rw (le-ltb 5 (getD bytes (at + 2) 0) pl) (omega (arith, small at))
+      rw (le-ltb 5 (getD bytes (at + 2) 0) pl)
+      (low-part 256 (getD bytes at 0) (getD bytes (at + 1) 0) (small at)
+      ∙ ap (λ (k : ℕ). getD bytes k 0) {x = at} {y = at + 0} (omega arith))
+  piece-given at pl l (suc zero) h =
+      rw (le-ltb 5 (getD bytes (at + 2) 0) pl)
+      (high-part 256 (getD bytes at 0) (getD bytes (at + 1) 0) (small at))
   piece-given at pl l (suc (suc zero)) h = rw (le-ltb 5 (getD bytes (at + 2) 0) pl) (place-again _ pl)
   piece-given at pl l (suc (suc (suc zero))) h = rw (le-ltb 5 (getD bytes (at + 2) 0) pl) (letter-again _ l)
   piece-given at pl l (suc (suc (suc (suc j)))) h = absurd (omega arith)
+
+  pair-small : (at : ℕ) → num16 bytes at < 65536
+  unfolding num16
+  pair-small at = omega (arith, small at, small (at + 1))
 
   module _ (formed : Malformed bytes → ⊥) where
     base-given :
@@ -73,12 +90,16 @@ module _ (bytes : List ℕ) (small : (k : ℕ) → getD bytes k 0 < 256) where
     unfolding yardBytes yardIn twoBytes fourBytes num16 num32
     front-given zero h = base-given .0
     front-given (suc zero) h = base-given .1
-    front-given (suc (suc zero)) h = omega (arith, small 2)
-    front-given (suc (suc (suc zero))) h = omega (arith, small 2)
-    front-given (suc (suc (suc (suc zero)))) h = omega (arith, small 4, small 5)
-    front-given (suc (suc (suc (suc (suc zero))))) h = omega (arith, small 4, small 5)
-    front-given (suc (suc (suc (suc (suc (suc zero)))))) h = omega (arith, small 4, small 5, small 6)
-    front-given (suc (suc (suc (suc (suc (suc (suc zero))))))) h = omega (arith, small 4, small 5, small 6)
+    front-given (suc (suc zero)) h = low-part 256 (getD bytes 2 0) (getD bytes 3 0) (small 2)
+    front-given (suc (suc (suc zero))) h = high-part 256 (getD bytes 2 0) (getD bytes 3 0) (small 2)
+    front-given (suc (suc (suc (suc zero)))) h =
+        rw (low-part 65536 (num16 bytes 4) (num16 bytes 6) (pair-small 4)) (low-part 256 (getD bytes 4 0) (getD bytes 5 0) (small 4))
+    front-given (suc (suc (suc (suc (suc zero))))) h =
+        rw (low-part 65536 (num16 bytes 4) (num16 bytes 6) (pair-small 4)) (high-part 256 (getD bytes 4 0) (getD bytes 5 0) (small 4))
+    front-given (suc (suc (suc (suc (suc (suc zero)))))) h =
+        rw (high-part 65536 (num16 bytes 4) (num16 bytes 6) (pair-small 4)) (low-part 256 (getD bytes 6 0) (getD bytes 7 0) (small 6))
+    front-given (suc (suc (suc (suc (suc (suc (suc zero))))))) h =
+        rw (high-part 65536 (num16 bytes 4) (num16 bytes 6) (pair-small 4)) (high-part 256 (getD bytes 6 0) (getD bytes 7 0) (small 6))
     front-given (suc (suc (suc (suc (suc (suc (suc (suc k)))))))) h = absurd (omega arith)
 
     device-given :
