@@ -16,7 +16,8 @@ use Rattle.exports.specs.Calls.{Checked, Freshened, Ticked, Ran, Taken, 
 abbrev pub Determined : {A : Type 0} → (A → Type 0) → Type 0
 Determined {A} allows = (r s : A) → allows r → allows s → r ≡ s
 
--- Each call's are: its numbers, and every buffer that it may write (`calls-determined`).
+-- Each call's are: its numbers, and every buffer that it may write (`calls-determined`). The header's contract needs none of
+-- this: it is two equations.
 pub record CallsDetermined : Type 0 where
   pub check : (plan : List ℕ) → Determined (λ (r : ℕ × ℕ). Checked plan (r .0) (r .1))
   pub fresh :
