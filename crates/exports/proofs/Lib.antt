@@ -1,2 +1,5 @@
 pub mod Sizes
 pub mod Lengths
+pub mod Determined
+pub mod Refused
+pub mod Chained

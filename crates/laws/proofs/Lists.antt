@@ -1,7 +1,7 @@
 -- Laws of lists that are given by what stands at each number from 1.
 use Prim.Native.Nat.{ℕ, zero, suc, _+_, _-_, _*_, _≤_, _<_}
 use native.Mathlib.Omega.{arith}
-use native.Mathlib.Nat.{mul-suc}
+use native.Mathlib.Nat.{mul-suc, mul-le-mul-left}
 use native.Mathlib.Numerals.{add-one}
 use mathlib.Core.Path.{_≡_, refl, sym, _∙_, ap}
 use mathlib.Core.List.{List, [], _∷_, _++_}
@@ -9,7 +9,7 @@ use mathlib.Core.Bool.{Bool, true, false, cond}
 use lib.Dec.{leb, eqb}
 use borrow.Author.Tests.{eqb-true, eqb-false, lt-leb, le-leb}
 use lib.ListN.{length, getD, set, drop, length-set, length-append, List·getD-append}
-use lib.Seq.{getD-at, set-at, drop-cons, append-snoc, ext-getD, getD-set-same, getD-set-other}
+use lib.Seq.{getD-at, set-at, drop-cons, append-snoc, ext-getD, getD-append-add, getD-set-same, getD-set-other}
 use Rattle.laws.specs.Lists.{tabulate, swept, joined}
 use Rattle.laws.proofs.Tests.{case, tests}
 
@@ -107,3 +107,20 @@ module _ {A : Type 0} (f : ℕ → List A) (w : ℕ) (wide : (i : ℕ) → lengt
   joined-length zero = omega arith
   joined-length (suc n) =
       length-append (joined f n) (f (suc n)) ∙ rw (joined-length n, wide (suc n)) (sym (mul-suc w n))
+
+  -- Piece i, counted from 1, stands behind those before it.
+  pub joined-at :
+      (n i j : ℕ) (d : A) → 1 ≤ i → i ≤ n → j < w → getD (joined f n) (w * (i - 1) + j) d ≡ getD (f i) j d
+  unfolding joined
+  joined-at zero i j d low high h = absurd (omega arith)
+  joined-at (suc n) i j d low high h =
+      case (eqb i (suc n))
+      (λ e.
+      let last : i ≡ suc n = eqb-true i (suc n) e in
+      let start : w * (i - 1) ≡ length (joined f n) =
+      ap (λ (k : ℕ). w * k) {x = i - 1} {y = n} (omega arith) ∙ sym (joined-length n) in
+      rw (start, last) (getD-append-add (joined f n) (f (suc n)) j d))
+      (λ e.
+      let fits : w * suc (i - 1) ≤ w * n = mul-le-mul-left w (omega tests) in
+      List·getD-append (joined f n) (f (suc n)) d (w * (i - 1) + j) (omega (arith, mul-suc w (i - 1), joined-length n))
+      ∙ joined-at n i j d low (omega tests) h)
