@@ -31,7 +31,8 @@
  *    0, 1     its clock
  *    2        its place: 0 Fall-Back, 1 Requesting, 2 Entering, 3 Running, 4 Exiting 1, 5 Exiting 2
  *    3        the letter that waits: 0 none, 1 Request, 2 Cancel, 3 Approve, 4 Deny, 5 Exit
- * Any other value of these bytes is malformed, and refused with 11 where a state that is not well formed is.
+ * Any other value of these bytes is malformed, and refused with 11 where a state that is not well formed is. Between ticks
+ * only Approve and Deny ever wait; a yard with another letter is not well formed, and refused with 11 too.
  */
 #ifndef WILATKHUN_H
 #define WILATKHUN_H
