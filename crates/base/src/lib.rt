@@ -1,6 +1,7 @@
 // What the supervisor does in a tick (step 3), once step 1 has moved its clocks on and the letters have gone up.
 // It only compares clocks and sets them to 0, so it takes any place and any clocks, and no function here has a `requires`.
 // `last` is what is heard from the initializer, `own` what is heard from the device i of the supervisor's place.
+use packed::letter_number;
 use rules::Base;
 use rules::BaseMove;
 use rules::Down;
@@ -10,19 +11,6 @@ ghost use mathlib.Core.Path.{_≡_};
 ghost use Prim.Native.Nat.{_-_, _<_};
 ghost use Rattle.rules.specs.Yard as yard;
 ghost use Rattle.rules.specs.Tick.Step3 as step3;
-
-fn letter_number(l: Letter) -> u8
-    ensures { λ r. ⌜ r ≡ yard.letterNumber l ⌝ }
-{
-    match l {
-        Letter::None => 0,
-        Letter::Request => 1,
-        Letter::Cancel => 2,
-        Letter::Approve => 3,
-        Letter::Deny => 4,
-        Letter::Exit => 5,
-    }
-}
 
 fn same_letter(a: Letter, b: Letter) -> bool
     ensures { λ r. ⌜ r ≡ yard.sameLetter a b ⌝ }

@@ -8,9 +8,9 @@ ghost use mathlib.Core.Path.{_≡_};
 ghost use lib.ListN.{length};
 ghost use Rattle.rules.specs.declared.Verdict.the-variants.{Accepted};
 ghost use Rattle.rules.specs.Verdict.{numberOf, indexOf, ifAccepted};
-ghost use Rattle.layout.specs.Bytes.{planBytes, yardBytes};
-ghost use Rattle.exports.specs.Asked.{sizeVerdict};
-ghost use Rattle.exports.specs.Calls.{Answered, downNumber, downDevice, whichOf, startOf, lengthOf};
+ghost use Rattle.encoded.specs.Bytes.{planBytes, yardBytes};
+ghost use Rattle.calls.specs.Asked.{sizeVerdict};
+ghost use Rattle.calls.specs.Calls.{Answered, downNumber, downDevice, whichOf, startOf, lengthOf};
 
 // A plan or a yard was lent at another length than its own.
 pub(crate) fn size_verdict(fits: bool) -> Verdict

@@ -1,7 +1,7 @@
 // The answers of document 01's calls to plans and yards that are lent as bytes. A wrong length is refused before all else.
 use crate::answers::size_verdict;
-use listing::Listed;
-use planfile::ReadAnswer;
+use files::ReadAnswer;
+use printed::Listed;
 use rules::Down;
 use rules::FreshAnswer;
 use rules::Record;
@@ -10,7 +10,7 @@ use rules::TickAnswer;
 use rules::Verdict;
 ghost use mathlib.Core.Path.{_≡_};
 ghost use lib.ListN.{length};
-ghost use Rattle.exports.specs.Asked.{KeptBy, checkFor, freshFor, tickFor, runFor, engagedFor, readFor, listFor, textFor};
+ghost use Rattle.calls.specs.Asked.{KeptBy, checkFor, freshFor, tickFor, runFor, engagedFor, readFor, listFor, textFor};
 
 pub(crate) fn check_for(plan: &[u8]) -> Verdict
     ensures { λ r. ⌜ r ≡ checkFor (now (plan .entry)) ⌝ }

@@ -23,8 +23,8 @@ use rules::Record;
 ghost use mathlib.Core.Path.{_≡_};
 ghost use Prim.Native.Nat.{_+_};
 ghost use lib.ListN.{length};
-ghost use Rattle.listing.specs.Listing.{headerWritten, headerBuffer};
-ghost use Rattle.exports.specs.Calls.{Checked, Freshened, Ticked, Ran, Taken, Found, Lined};
+ghost use Rattle.printed.specs.Listing.{headerWritten, headerBuffer};
+ghost use Rattle.calls.specs.Calls.{Checked, Freshened, Ticked, Ran, Taken, Found, Lined};
 
 #[no_mangle]
 pub extern "C" fn wilatkhun_check(plan: &[u8], index: &mut usize) -> u8

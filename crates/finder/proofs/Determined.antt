@@ -5,7 +5,7 @@ use mathlib.Core.List.{List}
 use denote.Ref.{RefT, now}
 use Rattle.laws.proofs.Tests.{determined}
 use Rattle.finder.specs.declared.Piece.the-variants.{InFile, InRoll}
-use Rattle.finder.specs.Piece.{PartOf, Lies}
+use Rattle.finder.specs.Piece.{PartOf}
 use Rattle.finder.specs.Theorems.{FindDetermined}
 
 same-part :

@@ -1,24 +1,21 @@
 -- The empty part at the roll's end means that nothing is at fault, and only that.
-use Prim.Native.Nat.{ℕ, _+_, _-_, _*_, _%_, _≤_, _<_}
+use Prim.Native.Nat.{ℕ, _+_, _-_, _%_}
 use native.Mathlib.Omega.{arith}
-use mathlib.Core.Path.{_≡_, refl, sym, _∙_, ap}
-use mathlib.Core.Logic.{_↔_}
-use mathlib.Core.Bool.{Bool, true, false, not, cond}
+use mathlib.Core.Path.{_≡_, refl, ap}
+use mathlib.Core.Bool.{not}
 use mathlib.Core.List.{List}
 use lib.Dec.{eqb, ltb}
 use lib.ListN.{length}
-use borrow.Author.Tests.{eqb-true, eqb-false, not-false}
-use Rattle.laws.specs.Tests.{lowest}
 use Rattle.laws.proofs.Tests.{tests, case}
 use Rattle.rules.specs.declared.Plan.{Plan}
 use Rattle.rules.specs.declared.Verdict.{Verdict}
-use Rattle.rules.specs.declared.Verdict.the-variants.{Accepted, Refused}
+use Rattle.rules.specs.declared.Verdict.the-variants.{Accepted}
 use Rattle.rules.specs.Run.{records, lengthVerdict, rollVerdict}
 use Rattle.rules.proofs.Answers.{by-verdict, accepted-if}
-use Rattle.planfile.specs.File.{readAnswer}
+use Rattle.files.specs.File.{readAnswer}
 use Rattle.finder.specs.declared.Piece.{Piece}
 use Rattle.finder.specs.declared.Piece.the-variants.{InFile, InRoll}
-use Rattle.finder.specs.Piece.{firstBad, rollStart, rollLength, pieceFor, piece}
+use Rattle.finder.specs.Piece.{firstBad, rollStart, rollLength, piece}
 use Rattle.finder.specs.Theorems.{EmptyExactly}
 
 -- How many bytes a piece has, and of the roll only.

@@ -9,8 +9,8 @@ use Rattle.laws.proofs.Tests.{tests, case}
 use Rattle.rules.specs.declared.Plan.{Plan}
 use Rattle.rules.specs.Run.{records}
 use Rattle.rules.proofs.Answers.{by-verdict}
-use Rattle.planfile.specs.File.{readAnswer}
-use Rattle.planfile.proofs.Files.{span-within}
+use Rattle.files.specs.File.{readAnswer}
+use Rattle.files.proofs.Files.{span-within}
 use Rattle.finder.specs.declared.Piece.{Piece}
 use Rattle.finder.specs.Piece.{firstBad, fileStart, fileLength, rollStart, rollLength, piece, Within}
 use Rattle.finder.specs.Theorems.{PieceWithin}

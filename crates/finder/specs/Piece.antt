@@ -2,9 +2,9 @@
 -- lent bytes and nothing else.
 use Prim.Native.Nat.{ℕ, _+_, _-_, _*_, _%_, _≤_, min}
 use mathlib.Core.Path.{_≡_}
-use mathlib.Core.Bool.{Bool, not, cond}
+use mathlib.Core.Bool.{not, cond}
 use mathlib.Core.List.{List}
-use lib.Dec.{leb, ltb, eqb}
+use lib.Dec.{ltb, eqb}
 use lib.ListN.{length, take, drop}
 use denote.Ref.{RefT, now}
 use Rattle.laws.specs.Tests.{lowest}
@@ -13,7 +13,7 @@ use Rattle.rules.specs.declared.Verdict.{Verdict}
 use Rattle.rules.specs.declared.Verdict.the-variants.{Accepted, Refused}
 use Rattle.rules.specs.Tick.Input.{validRecord}
 use Rattle.rules.specs.Run.{records, recordAt}
-use Rattle.planfile.specs.File.{bodySpan, readAnswer}
+use Rattle.files.specs.File.{bodySpan, readAnswer}
 use Rattle.finder.specs.declared.Piece.{Piece}
 use Rattle.finder.specs.declared.Piece.the-variants.{InFile, InRoll}
 

@@ -7,7 +7,7 @@ use lib.ListN.{length}
 use denote.Ref.{RefT, now}
 use Rattle.rules.specs.declared.Verdict.the-variants.{Accepted}
 use Rattle.rules.specs.Run.{lengthVerdict, rollVerdict}
-use Rattle.planfile.specs.File.{readAnswer}
+use Rattle.files.specs.File.{readAnswer}
 use Rattle.finder.specs.declared.Piece.{Piece}
 use Rattle.finder.specs.declared.Piece.the-variants.{InRoll}
 use Rattle.finder.specs.Piece.{piece, Within, Lies}

@@ -1,8 +1,8 @@
 // The finder: of a plan file and a roll, the bytes that are refused. It takes any two lent slices, and names a part of one of
 // them by numbers, or hands that part back; no public function here has a `requires`.
+use rolls::first_bad;
 use rules::Plan;
 use rules::Verdict;
-use yard::roll::first_bad;
 ghost use mathlib.Core.Path.{_≡_};
 ghost use Prim.Native.Nat.{_+_, _-_, _≤_, min};
 ghost use lib.ListN.{length};

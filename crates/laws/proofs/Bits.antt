@@ -2,15 +2,15 @@
 use Prim.Native.Nat.{ℕ, zero, suc, _+_, _-_, _*_, _/_, _%_, _^_, _≤_, _<_}
 use native.Mathlib.Omega.{arith}
 use native.Mathlib.Nat.{div-eq-of-lt, add-div-right, add-mul-div-left, add-mul-mod-self-right, add-zero, div-one, pow-suc, one-mul, div-lt-iff-lt-mul, lt-of-lt-of-le}
-use mathlib.Core.Path.{_≡_, refl, sym, _∙_, ap}
+use mathlib.Core.Path.{_≡_, refl, _∙_, ap}
 use mathlib.Core.Bool.{Bool, true, false, cond}
 use lib.Dec.{eqb, ltb}
-use lib.Arith.{bin-ind, lt-one}
+use lib.Arith.{bin-ind}
 use lib.Pow.{pow-pos, pow-add, pow-mono, shr-shr}
 use borrow.Author.Tests.{ltb-true, eqb-true, eqb-false, lt-ltb, ne-eqb}
 use mathlib.Core.Logic.{_↔_}
 use Rattle.laws.specs.Bits.{bit, clearFrom, ofBits}
-use Rattle.laws.proofs.Tests.{case, clash, tests}
+use Rattle.laws.proofs.Tests.{case, tests}
 
 -- A number below 2 ^ k has no bit at k.
 pub bit-above : (b k : ℕ) → b < 2 ^ k → bit b k ≡ false
@@ -59,6 +59,14 @@ module _ (test : ℕ → Bool) where
 
   pub of-bits-above : (n k : ℕ) → n ≤ k → bit (ofBits test n) k ≡ false
   of-bits-above n k h = bit-above (ofBits test n) k (lt-of-lt-of-le (of-bits-below n) (pow-mono h))
+
+-- It is made by what the test says below n alone.
+pub of-bits-same :
+    (f g : ℕ → Bool) (n : ℕ) → ((k : ℕ) → k < n → f k ≡ g k) → ofBits f n ≡ ofBits g n
+unfolding ofBits
+of-bits-same f g zero same = refl
+of-bits-same f g (suc n) same =
+    rw (of-bits-same f g n (λ k h. same k (omega arith)), same n (omega arith))
 
 -- A number with no bit is 0.
 no-bits : (b : ℕ) → ((k : ℕ) → bit b k ≡ false) → b ≡ 0

@@ -1,5 +1,5 @@
 // A plan as bytes: N, W, B, Q, then for each device F, E, R, X, G, S, two bytes each, as a plan file's body has them.
-use crate::numbers::put_two;
+use crate::numbers::put_twos;
 use rules::Plan;
 use rules::Slot;
 ghost use mathlib.Core.Path.{_≡_};
@@ -7,18 +7,15 @@ ghost use mathlib.Core.List.{_++_};
 ghost use Prim.Native.Nat.{_+_, _*_, _≤_};
 ghost use lib.ListN.{length, drop};
 ghost use Rattle.laws.specs.Written.{Written};
-ghost use Rattle.layout.specs.Bytes.{slotBytes, slotsBytes, bodyWritten};
+ghost use Rattle.encoded.specs.Bytes.{slotBytes, slotsBytes, bodyWritten};
 
 fn put_slot(s: Slot, out: &mut [u8], at: usize) -> usize
     requires { ⌜ at + 12 ≤ length (now out) ⌝ }
     ensures { λ r. ⌜ Written (now (out .entry)) at (slotBytes s) (now (out .exit)) r × (r ≡ at + 12) ⌝ }
 {
-    let f = put_two(s.F, out, at);
-    let e = put_two(s.E, out, f);
-    let r = put_two(s.R, out, e);
-    let x = put_two(s.X, out, r);
-    let g = put_two(s.G, out, x);
-    put_two(s.S, out, g)
+    let r = put_twos(s.F, s.E, out, at);
+    let g = put_twos(s.R, s.X, out, r);
+    put_twos(s.G, s.S, out, g)
 }
 
 fn put_slots(slots: [Slot; 8], n: usize, out: &mut [u8], at: usize) -> usize
@@ -46,10 +43,8 @@ pub fn put(p: Plan, n: usize, out: &mut [u8]) -> usize
     if out.len() < 8 + 12 * n {
         return 0;
     }
-    let w = put_two(p.N, out, 0);
-    let b = put_two(p.W, out, w);
-    let q = put_two(p.B, out, b);
-    let first = put_two(p.Q, out, q);
+    let b = put_twos(p.N, p.W, out, 0);
+    let first = put_twos(p.B, p.Q, out, b);
     let slots = p.slots;
     put_slots(slots, n, out, first)
 }

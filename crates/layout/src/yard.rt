@@ -1,8 +1,10 @@
 // A yard as bytes: where the base stands, its device, the place clock (2), the lease clock (4), then for each of the eight
 // devices its clock (2), its place and its letter.
 use crate::numbers::put_four;
-use crate::numbers::put_pair;
-use crate::numbers::put_two;
+use crate::numbers::put_twos;
+use packed::letter_of;
+use packed::pack;
+use packed::place_of;
 use planfile::bytes::two;
 use rules::Base;
 use rules::Device;
@@ -14,70 +16,24 @@ ghost use mathlib.Core.List.{_++_};
 ghost use Prim.Native.Nat.{_+_, _*_, _≤_, _<_};
 ghost use lib.ListN.{length, drop};
 ghost use Rattle.laws.specs.Written.{Written};
-ghost use Rattle.planfile.specs.Bytes.{num32};
-ghost use Rattle.rules.specs.Yard.{placeNumber, letterNumber};
-ghost use Rattle.layout.specs.Numbers.{baseNumber, baseDevice, baseOf, placeOf, letterOf, deviceOf};
-ghost use Rattle.layout.specs.Bytes.{deviceBytes, devicesBytes, yardWritten};
-ghost use Rattle.layout.specs.Reading.{deviceIn, devicesIn, noYard, yardOf};
+ghost use Rattle.files.specs.Bytes.{num16, num32};
+ghost use Rattle.encoded.specs.Numbers.{baseNumber, baseDevice, baseOf, deviceOf};
+ghost use Rattle.encoded.specs.Bytes.{devicesBytes, yardWritten};
+ghost use Rattle.encoded.specs.Reading.{deviceIn, devicesIn, noYard, yardOf};
 
-fn base_number(base: Base) -> u8
-    ensures { λ r. ⌜ r ≡ baseNumber base ⌝ }
+// Where the base stands and its device, as one number.
+fn base_word(base: Base) -> u16
+    ensures { λ r. ⌜ r ≡ baseNumber base + 256 * baseDevice base ⌝ }
 {
     match base {
         Base::FallBack => 0,
-        Base::Lease(_) => 1,
-        Base::Cancel(_) => 2,
-        Base::Abort(_) => 3,
+        Base::Lease(i) => two(1, i),
+        Base::Cancel(i) => two(2, i),
+        Base::Abort(i) => two(3, i),
     }
 }
 
-fn base_device(base: Base) -> u8
-    ensures { λ r. ⌜ r ≡ baseDevice base ⌝ }
-{
-    match base {
-        Base::FallBack => 0,
-        Base::Lease(i) => i,
-        Base::Cancel(i) => i,
-        Base::Abort(i) => i,
-    }
-}
-
-fn place_number(place: Place) -> u8
-    ensures { λ r. ⌜ r ≡ placeNumber place ⌝ }
-{
-    match place {
-        Place::FallBack => 0,
-        Place::Requesting => 1,
-        Place::Entering => 2,
-        Place::Running => 3,
-        Place::Exiting1 => 4,
-        Place::Exiting2 => 5,
-    }
-}
-
-fn letter_number(letter: Letter) -> u8
-    ensures { λ r. ⌜ r ≡ letterNumber letter ⌝ }
-{
-    match letter {
-        Letter::None => 0,
-        Letter::Request => 1,
-        Letter::Cancel => 2,
-        Letter::Approve => 3,
-        Letter::Deny => 4,
-        Letter::Exit => 5,
-    }
-}
-
-fn put_device(d: Device, out: &mut [u8], at: usize) -> usize
-    requires { ⌜ at + 4 ≤ length (now out) ⌝ }
-    ensures { λ r. ⌜ Written (now (out .entry)) at (deviceBytes d) (now (out .exit)) r × (r ≡ at + 4) ⌝ }
-{
-    let place = d.place;
-    let letter = d.letter;
-    let next = put_two(d.clock, out, at);
-    put_pair(place_number(place), letter_number(letter), out, next)
-}
-
+// A device's four bytes are those of its number.
 fn put_devices(devices: [Device; 8], out: &mut [u8], at: usize) -> usize
     requires { ⌜ at + 32 ≤ length (now out) ⌝ }
     ensures { λ r. ⌜ Written (now (out .entry)) at (devicesBytes devices 8) (now (out .exit)) r ⌝ }
@@ -85,7 +41,7 @@ fn put_devices(devices: [Device; 8], out: &mut [u8], at: usize) -> usize
     let mut end = at;
     let mut k: usize = 0;
     while k < 8 {
-        end = put_device(devices[k], out, end);
+        end = put_four(pack(devices[k]), out, end);
         k += 1;
     }
     end
@@ -102,8 +58,7 @@ pub fn put(y: Yard, out: &mut [u8]) -> usize
     }
     let base = y.base;
     let devices = y.devices;
-    let clock = put_pair(base_number(base), base_device(base), out, 0);
-    let lease = put_two(y.clock, out, clock);
+    let lease = put_twos(base_word(base), y.clock, out, 0);
     let first = put_four(y.lease, out, lease);
     put_devices(devices, out, first)
 }
@@ -127,48 +82,6 @@ fn base_of(number: u8, i: u8) -> Base
     Base::Lease(0)
 }
 
-fn place_of(number: u8) -> Place
-    ensures { λ r. ⌜ r ≡ placeOf number ⌝ }
-{
-    if number == 1 {
-        return Place::Requesting;
-    }
-    if number == 2 {
-        return Place::Entering;
-    }
-    if number == 3 {
-        return Place::Running;
-    }
-    if number == 4 {
-        return Place::Exiting1;
-    }
-    if number == 5 {
-        return Place::Exiting2;
-    }
-    Place::FallBack
-}
-
-fn letter_of(number: u8) -> Letter
-    ensures { λ r. ⌜ r ≡ letterOf number ⌝ }
-{
-    if number == 0 {
-        return Letter::None;
-    }
-    if number == 2 {
-        return Letter::Cancel;
-    }
-    if number == 3 {
-        return Letter::Approve;
-    }
-    if number == 4 {
-        return Letter::Deny;
-    }
-    if number == 5 {
-        return Letter::Exit;
-    }
-    Letter::Request
-}
-
 // A place or a letter that has no such number makes a device that no plan takes: between ticks no Request waits.
 fn device_of(clock: u16, place: u8, letter: u8) -> Device
     ensures { λ r. ⌜ r ≡ deviceOf clock place letter ⌝ }
@@ -187,11 +100,18 @@ fn device_of(clock: u16, place: u8, letter: u8) -> Device
     }
 }
 
+fn two_in(bytes: &[u8], at: usize) -> u16
+    requires { ⌜ at + 1 < length (now bytes) ⌝ }
+    ensures { λ r. ⌜ r ≡ num16 (now (bytes .entry)) at ⌝ }
+{
+    two(bytes[at], bytes[at + 1])
+}
+
 fn device_in(bytes: &[u8], at: usize) -> Device
     requires { ⌜ at + 3 < length (now bytes) ⌝ }
     ensures { λ r. ⌜ r ≡ deviceIn (now (bytes .entry)) at ⌝ }
 {
-    device_of(two(bytes[at], bytes[at + 1]), bytes[at + 2], bytes[at + 3])
+    device_of(two_in(bytes, at), bytes[at + 2], bytes[at + 3])
 }
 
 fn devices_in(bytes: &[u8]) -> [Device; 8]
@@ -216,7 +136,7 @@ fn lease_in(bytes: &[u8]) -> u32
     requires { ⌜ 40 ≤ length (now bytes) ⌝ }
     ensures { λ r. ⌜ r ≡ num32 (now (bytes .entry)) 4 ⌝ }
 {
-    broad(two(bytes[4], bytes[5])) + 65536 * broad(two(bytes[6], bytes[7]))
+    broad(two_in(bytes, 4)) + 65536 * broad(two_in(bytes, 6))
 }
 
 fn broad(x: u16) -> u32
@@ -250,7 +170,7 @@ pub fn read(bytes: &[u8]) -> Yard
     }
     Yard {
         base: base_of(bytes[0], bytes[1]),
-        clock: two(bytes[2], bytes[3]),
+        clock: two_in(bytes, 2),
         lease: lease_in(bytes),
         devices: devices_in(bytes),
     }

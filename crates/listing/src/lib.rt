@@ -6,6 +6,7 @@ mod text;
 
 use line::titles;
 use lines::lines;
+use printed::Listed;
 use rules::Plan;
 use rules::Verdict;
 use rules::Yard;
@@ -13,15 +14,7 @@ use text::word;
 ghost use mathlib.Core.Path.{_≡_};
 ghost use Prim.Native.Nat.{_+_};
 ghost use lib.ListN.{length};
-ghost use Rattle.listing.specs.Listing.{headerWritten, headerBuffer, listAnswer, listBuffer};
-
-// What a listing answers: the yard at the end of the ticks done, how many these are, and the length of their lines.
-pub struct Listed {
-    pub verdict: Verdict,
-    pub yard: Yard,
-    pub ticks: usize,
-    pub length: usize,
-}
+ghost use Rattle.printed.specs.Listing.{headerWritten, headerBuffer, listAnswer, listBuffer};
 
 // The header for n devices, from `at` on; it answers where the header ends. With more than 8 devices, or with fewer than
 // 64 bytes of room behind `at`, it writes nothing and answers `at`.

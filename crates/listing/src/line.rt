@@ -4,28 +4,27 @@ use crate::text::number;
 use crate::text::places;
 use crate::text::put;
 use crate::text::supervisor;
+use crate::text::with_index;
 use rules::Down;
 use rules::Yard;
 ghost use mathlib.Core.List.{_∷_};
 ghost use Prim.Native.Nat.{_+_, _≤_};
 ghost use lib.ListN.{length};
 ghost use Rattle.laws.specs.Lists.{tabulate};
-ghost use Rattle.listing.specs.Text.{decimal, spaced, lineText};
-ghost use Rattle.listing.specs.Listing.{lineRoom};
+ghost use Rattle.printed.specs.Text.{decimal, spaced, lineText};
+ghost use Rattle.printed.specs.Listing.{lineRoom};
 ghost use Rattle.laws.specs.Written.{Written};
 
 // The titles d1 to dn, each with a space before it.
 pub(crate) fn titles(n: u16, out: &mut [u8], at: usize) -> usize
-    requires { ⌜ (n ≤ 8) × (at + 24 ≤ length (now out)) ⌝ }
+    requires { ⌜ (n ≤ 8) × (at + 26 ≤ length (now out)) ⌝ }
     ensures { λ r. ⌜ Written (now (out .entry)) at (spaced (tabulate (λ i. 100 ∷ decimal i) n)) (now (out .exit)) r × (r ≤ at + 24) ⌝ }
 {
     let count = n as usize;
     let mut e = at;
     let mut k: usize = 0;
     while k < count {
-        let s = put(b' ', out, e);
-        let d = put(b'd', out, s);
-        e = number(k + 1, out, d);
+        e = with_index(b'd', (k + 1) as u8, out, e);
         k += 1;
     }
     e
@@ -47,10 +46,8 @@ pub(crate) fn line(
     let base = y.base;
     let devices = y.devices;
     let a = number(tick, out, at);
-    let b = put(b' ', out, a);
-    let c = supervisor(base, out, b);
-    let d = places(n, devices, out, c);
-    let e = put(b' ', out, d);
-    let f = letter(down, lost, out, e);
-    put(b'\n', out, f)
+    let b = supervisor(base, out, a);
+    let c = places(n, devices, out, b);
+    let d = letter(down, lost, out, c);
+    put(b'\n', out, d)
 }

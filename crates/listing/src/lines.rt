@@ -1,31 +1,17 @@
 // The lines of a roll, tick after tick.
 use crate::Listed;
 use crate::line::line;
+use rolls::record_at;
 use rules::Plan;
 use rules::Record;
 use rules::Verdict;
 use rules::Yard;
 ghost use mathlib.Core.Path.{_≡_};
-ghost use Prim.Native.Nat.{_+_, _*_, _≤_, _<_};
+ghost use Prim.Native.Nat.{_<_};
 ghost use lib.ListN.{length};
 ghost use Rattle.rules.specs.declared.Verdict.the-variants.{Accepted};
 ghost use Rattle.rules.specs.Tick.Input.{downLost};
-ghost use Rattle.rules.specs.Run.{recordAt};
-ghost use Rattle.listing.specs.Listing.{listVerdict, listAnswer, listBuffer};
-
-// The record at k, counted from 0; callers have seen that the roll has it.
-fn record_at(roll: &[u8], k: usize) -> Record
-    requires { ⌜ 4 * k + 4 ≤ length (now roll) ⌝ }
-    ensures { λ r. ⌜ r ≡ recordAt (now (roll .entry)) k ⌝ }
-{
-    let at = 4 * k;
-    Record {
-        command: roll[at],
-        flags: roll[at + 1],
-        willing: roll[at + 2],
-        lost: roll[at + 3],
-    }
-}
+ghost use Rattle.printed.specs.Listing.{listVerdict, listAnswer, listBuffer};
 
 fn down_lost(r: Record) -> bool
     ensures { λ b. ⌜ b ≡ downLost r ⌝ }

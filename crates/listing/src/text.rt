@@ -9,7 +9,7 @@ ghost use Prim.Native.Nat.{_+_, _≤_, _<_};
 ghost use lib.ListN.{length};
 ghost use Rattle.laws.specs.Lists.{tabulate};
 ghost use Rattle.yard.specs.Sweep.{deviceAt};
-ghost use Rattle.listing.specs.Text.{decimal, supText, placeByte, placeText, mark, downText, spaced};
+ghost use Rattle.printed.specs.Text.{decimal, supText, placeByte, placeText, mark, downText, spaced};
 ghost use Rattle.laws.specs.Written.{Written};
 
 pub(crate) fn put(b: u8, out: &mut [u8], at: usize) -> usize
@@ -18,6 +18,16 @@ pub(crate) fn put(b: u8, out: &mut [u8], at: usize) -> usize
 {
     out[at] = b;
     at + 1
+}
+
+// Two bytes, one behind the other.
+fn pair(a: u8, b: u8, out: &mut [u8], at: usize) -> usize
+    requires { ⌜ at + 2 ≤ length (now out) ⌝ }
+    ensures { λ r. ⌜ Written (now (out .entry)) at (a ∷ b ∷ []) (now (out .exit)) r ⌝ }
+{
+    out[at] = a;
+    out[at + 1] = b;
+    at + 2
 }
 
 // All of a text.
@@ -51,21 +61,22 @@ fn wide(i: u8) -> usize
     i as usize
 }
 
-// A letter with its device's number, which is at most three digits long.
-fn with_index(b: u8, i: u8, out: &mut [u8], at: usize) -> usize
-    requires { ⌜ at + 4 ≤ length (now out) ⌝ }
-    ensures { λ r. ⌜ Written (now (out .entry)) at (b ∷ decimal i) (now (out .exit)) r × (r ≤ at + 4) ⌝ }
+// A field that is a letter with its device's number, which is at most three digits long, and the space before it.
+pub(crate) fn with_index(b: u8, i: u8, out: &mut [u8], at: usize) -> usize
+    requires { ⌜ at + 5 ≤ length (now out) ⌝ }
+    ensures { λ r. ⌜ Written (now (out .entry)) at (32 ∷ b ∷ decimal i) (now (out .exit)) r × (r ≤ at + 5) ⌝ }
 {
-    let e = put(b, out, at);
+    let e = pair(b' ', b, out, at);
     number(wide(i), out, e)
 }
 
+// The supervisor, with a space before it.
 pub(crate) fn supervisor(base: Base, out: &mut [u8], at: usize) -> usize
-    requires { ⌜ at + 4 ≤ length (now out) ⌝ }
-    ensures { λ r. ⌜ Written (now (out .entry)) at (supText base) (now (out .exit)) r × (r ≤ at + 4) ⌝ }
+    requires { ⌜ at + 5 ≤ length (now out) ⌝ }
+    ensures { λ r. ⌜ Written (now (out .entry)) at (32 ∷ supText base) (now (out .exit)) r × (r ≤ at + 5) ⌝ }
 {
     match base {
-        Base::FallBack => put(b'F', out, at),
+        Base::FallBack => pair(b' ', b'F', out, at),
         Base::Lease(i) => with_index(b'L', i, out, at),
         Base::Cancel(i) => with_index(b'C', i, out, at),
         Base::Abort(i) => with_index(b'A', i, out, at),
@@ -96,17 +107,16 @@ pub(crate) fn places(n: u16, devices: [Device; 8], out: &mut [u8], at: usize) ->
     while k < count {
         let d = devices[k];
         let place = d.place;
-        let s = put(b' ', out, e);
-        e = put(place_byte(place), out, s);
+        e = pair(b' ', place_byte(place), out, e);
         k += 1;
     }
     e
 }
 
-// A letter that was sent, with its device and, if it was lost, the mark.
+// A letter that was sent, with its device and, if it was lost, the mark; a space before it.
 fn marked(b: u8, i: u8, lost: bool, out: &mut [u8], at: usize) -> usize
-    requires { ⌜ at + 5 ≤ length (now out) ⌝ }
-    ensures { λ r. ⌜ Written (now (out .entry)) at (b ∷ decimal i ++ mark lost) (now (out .exit)) r × (r ≤ at + 5) ⌝ }
+    requires { ⌜ at + 6 ≤ length (now out) ⌝ }
+    ensures { λ r. ⌜ Written (now (out .entry)) at (32 ∷ b ∷ decimal i ++ mark lost) (now (out .exit)) r × (r ≤ at + 6) ⌝ }
 {
     let e = with_index(b, i, out, at);
     if lost {
@@ -115,13 +125,14 @@ fn marked(b: u8, i: u8, lost: bool, out: &mut [u8], at: usize) -> usize
     e
 }
 
-// The down letter of a tick; where there is none nothing is marked, whatever the record says of its loss.
+// The down letter of a tick, with a space before it; where there is none nothing is marked, whatever the record says of its
+// loss.
 pub(crate) fn letter(down: Down, lost: bool, out: &mut [u8], at: usize) -> usize
-    requires { ⌜ at + 5 ≤ length (now out) ⌝ }
-    ensures { λ r. ⌜ Written (now (out .entry)) at (downText down lost) (now (out .exit)) r × (r ≤ at + 5) ⌝ }
+    requires { ⌜ at + 6 ≤ length (now out) ⌝ }
+    ensures { λ r. ⌜ Written (now (out .entry)) at (32 ∷ downText down lost) (now (out .exit)) r × (r ≤ at + 6) ⌝ }
 {
     match down {
-        Down::None => put(b'-', out, at),
+        Down::None => pair(b' ', b'-', out, at),
         Down::LeaseReq(i) => marked(b'Q', i, lost, out, at),
         Down::Grant(i) => marked(b'G', i, lost, out, at),
         Down::Cancel(i) => marked(b'C', i, lost, out, at),

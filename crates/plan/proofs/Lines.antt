@@ -1,21 +1,20 @@
 -- The lines that this crate tries at an index are those of the table that are asked there.
-use Prim.Native.Nat.{ℕ, zero, suc, _+_, _-_, _*_, _≤_, _<_}
+use Prim.Native.Nat.{ℕ, suc, _+_, _-_, _*_, _≤_, _<_}
 use native.Mathlib.Omega.{arith}
-use mathlib.Core.Path.{_≡_, refl, sym, _∙_, ap, ap₂}
-use mathlib.Core.Bool.{Bool, true, false, not, _&&_, _||_, cond}
+use mathlib.Core.Path.{_≡_, refl, _∙_, ap, ap₂}
+use mathlib.Core.Bool.{Bool, true, false, not, _&&_, cond}
 use mathlib.Core.List.{List, [], _∷_}
 use lib.Dec.{leb, ltb, eqb}
-use lib.ListN.{getD}
-use borrow.Author.Tests.{ltb-true, ltb-false, lt-ltb, le-ltb, le-leb, lt-leb, eq-eqb, ne-eqb, eqb-true, eqb-false}
-use Rattle.laws.specs.Tests.{allOf, anyOf}
+use borrow.Author.Tests.{ltb-true, eq-eqb, ne-eqb, eqb-true}
+use Rattle.laws.specs.Tests.{anyOf}
 use Rattle.laws.proofs.Tests.{tests, case, fails, on-cond, and-hold, all-is}
 use Rattle.rules.specs.declared.Plan.{Plan}
 use Rattle.rules.specs.declared.Slot.{Slot}
-use Rattle.rules.specs.Plan.{slot, stay, LS, isTime, isDevice, isPair, isAbove}
+use Rattle.rules.specs.Plan.{slot, stay, LS, isDevice, isPair, isAbove}
 use Rattle.rules.specs.Table as rules-table
 use Rattle.rules.specs.Table.{line1, line2, line3, line4, line5, line6, line7, line8, line9, table, broken}
 use Rattle.rules.proofs.Plans.Table.{is-device, is-pair, is-above, device-is, pair-is, above-is}
-use Rattle.plan.specs.Lines.{stayOf, sizeHolds, yardTimes, deviceTimes, pairTimes, noSpacing, allZero, c2Holds, c3Holds, c4Holds, c5Holds, c6Holds, c7Holds, yardLine, pairLine, lastLine, unusedLine, slotLine}
+use Rattle.plan.specs.Lines.{sizeHolds, yardTimes, deviceTimes, pairTimes, noSpacing, allZero, c2Holds, c3Holds, c4Holds, c5Holds, c6Holds, c7Holds, yardLine, pairLine, lastLine, unusedLine, slotLine}
 
 -- The number, from k, of the first test of a list that holds.
 unfoldable pub firstOf : ℕ → List Bool → ℕ

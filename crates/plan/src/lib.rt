@@ -6,7 +6,7 @@ use rules::Plan;
 use rules::Slot;
 use rules::Verdict;
 ghost use mathlib.Core.Path.{_≡_};
-ghost use Prim.Native.Nat.{_+_, _*_, _≤_, _<_};
+ghost use Prim.Native.Nat.{_*_, _≤_, _<_};
 ghost use Rattle.rules.specs.Plan.{isTime};
 ghost use Rattle.rules.specs.Table.{planVerdict};
 ghost use Rattle.plan.specs.Lines.{stayOf, sizeHolds, yardTimes, deviceTimes, pairTimes, noSpacing, allZero, c2Holds, c3Holds, c4Holds, c5Holds, c6Holds, c7Holds, yardLine, pairLine, lastLine, unusedLine, slotLine, placeAfter};

@@ -9,7 +9,7 @@ use rules::Slot;
 ghost use mathlib.Core.Path.{_≡_};
 ghost use Prim.Native.Nat.{_+_, _*_, _≤_, _<_};
 ghost use lib.ListN.{length};
-ghost use Rattle.planfile.specs.File.{slotIn, slotsIn, planIn, bodyVerdict, answerOf};
+ghost use Rattle.files.specs.File.{slotIn, slotsIn, planIn, bodyVerdict, answerOf};
 
 fn slot_at(body: &[u8], at: usize) -> Slot
     requires { ⌜ at + 11 < length (now body) ⌝ }

@@ -7,33 +7,16 @@ pub mod bytes;
 
 use bytes::four_bytes;
 use bytes::two_bytes;
+use files::ReadAnswer;
+use files::Span;
+use files::Trailer;
 use rules::Plan;
 use rules::Slot;
 use rules::Verdict;
 ghost use mathlib.Core.Path.{_≡_};
 ghost use lib.ListN.{length};
 ghost use Rattle.rules.specs.declared.Verdict.the-variants as verdict;
-ghost use Rattle.planfile.specs.File.{trailerIn, devicesFor, isBodySize, emptyPlan, trailerVerdict, answerOf, readAnswer, bodySpan, wholePlan};
-
-// The last ten bytes of a file: the body's length, the version, the distance back from the file's end to the body, and the
-// two bytes that every plan file ends with.
-pub struct Trailer {
-    pub size: u16,
-    pub version: u16,
-    pub back: u32,
-    pub mark: u16,
-}
-
-// A part of a file: where it starts, and how many bytes it has.
-pub struct Span {
-    pub start: usize,
-    pub len: usize,
-}
-
-pub struct ReadAnswer {
-    pub verdict: Verdict,
-    pub plan: Plan,
-}
+ghost use Rattle.files.specs.File.{trailerIn, devicesFor, isBodySize, emptyPlan, trailerVerdict, answerOf, readAnswer, bodySpan, wholePlan};
 
 // The bytes 59 50 hex, little-endian.
 const MARK: u16 = 0x5059;

@@ -8,7 +8,6 @@ use lib.ListN.{getD}
 use Rattle.laws.specs.Tests.{allOf, anyOf, lowest}
 use Rattle.laws.specs.Lists.{tabulate}
 use Rattle.rules.specs.declared.Plan.{Plan}
-use Rattle.rules.specs.declared.Slot.{Slot}
 use Rattle.rules.specs.declared.Verdict.{Verdict}
 use Rattle.rules.specs.Verdict.{refusedIf, firstRefusal}
 use Rattle.rules.specs.Plan.{slot, stay, LS, isTime, isDevice, isPair, isAbove}

@@ -3,9 +3,9 @@
 use Prim.Native.Nat.{ℕ, _+_, _-_, _*_, _≤_, _<_}
 use mathlib.Core.Path.{_≡_}
 use mathlib.Core.Logic.{_↔_, _⊎_}
-use mathlib.Core.Bool.{Bool, true, false}
+use mathlib.Core.Bool.{true, false}
 use mathlib.Core.List.{List, map, _++_}
-use lib.ListN.{drop, take}
+use lib.ListN.{drop}
 use Rattle.laws.specs.Bits.{bit}
 use Rattle.rules.specs.declared.Plan.{Plan}
 use Rattle.rules.specs.declared.Yard.{Yard}
@@ -17,7 +17,7 @@ use Rattle.rules.specs.Table.{broken, planVerdict}
 use Rattle.rules.specs.Yard.{device, wellFormed}
 use Rattle.rules.specs.Tick.{tick}
 use Rattle.rules.specs.Tick.Input.{validRecord}
-use Rattle.rules.specs.Run.{records, after, engagedByte, engagedBytes, runAnswer, runBuffer, runVerdict}
+use Rattle.rules.specs.Run.{after, engagedByte, engagedBytes}
 use Rattle.rules.specs.Worked.{Case, answer, starred}
 
 -- All times are whole ticks, 1 to 36,000.

@@ -1,4 +1,5 @@
 // Whether a state is well formed (refusal 11). It takes any plan and any state; no public function here has a `requires`.
+use packed::place_number;
 use rules::Base;
 use rules::Device;
 use rules::Letter;
@@ -9,7 +10,7 @@ use rules::Yard;
 ghost use mathlib.Core.Path.{_≡_};
 ghost use Prim.Native.Nat.{_≤_, _<_};
 ghost use Rattle.rules.specs.Plan.{slot, LS, isDevice, isParticipant};
-ghost use Rattle.rules.specs.Yard.{indexFormed, clockFormed, leaseFormed, placeFormed, letterFormed, isFresh, deviceFormed, baseFormed, wellFormed, device, samePlace, sameLetter, placeNumber, letterNumber};
+ghost use Rattle.rules.specs.Yard.{indexFormed, clockFormed, leaseFormed, placeFormed, letterFormed, isFresh, deviceFormed, baseFormed, wellFormed, samePlace, sameLetter};
 ghost use Rattle.rules.specs.declared.Letter.the-variants as letter;
 
 fn wide(i: u8) -> u16
@@ -87,19 +88,6 @@ fn base_formed(p: Plan, base: Base, clock: u16, lease: u32) -> bool
     ensures { λ r. ⌜ r ≡ baseFormed p base clock lease ⌝ }
 {
     index_formed(p, base) & clock_formed(p, base, clock) & lease_formed(p, base, lease)
-}
-
-fn place_number(a: Place) -> u8
-    ensures { λ r. ⌜ r ≡ placeNumber a ⌝ }
-{
-    match a {
-        Place::FallBack => 0,
-        Place::Requesting => 1,
-        Place::Entering => 2,
-        Place::Running => 3,
-        Place::Exiting1 => 4,
-        Place::Exiting2 => 5,
-    }
 }
 
 fn same_place(a: Place, b: Place) -> bool

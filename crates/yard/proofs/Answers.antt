@@ -1,13 +1,11 @@
 -- What an answer that is no refusal tells, and what the answers then are.
-use Prim.Native.Nat.{ℕ, zero, suc, _+_, _*_, _≤_, _<_, min}
-use native.Mathlib.Omega.{arith}
-use mathlib.Core.Path.{_≡_, refl, sym, _∙_, ap}
-use mathlib.Core.Bool.{Bool, true, false, not}
+use Prim.Native.Nat.{ℕ, _+_, _≤_}
+use mathlib.Core.Path.{_≡_, sym, _∙_}
+use mathlib.Core.Bool.{true}
 use mathlib.Core.List.{List, [], _∷_, _++_}
 use lib.Dec.{ltb}
 use lib.ListN.{length, drop}
 use borrow.Author.Tests.{not-false, ltb-false}
-use Rattle.laws.proofs.Tests.{tests}
 use Rattle.rules.specs.declared.Plan.{Plan}
 use Rattle.rules.specs.declared.Yard.{Yard}
 use Rattle.rules.specs.declared.Record.{Record}
@@ -15,14 +13,12 @@ use Rattle.rules.specs.declared.Down.{Down}
 use Rattle.rules.specs.declared.Down.the-variants as down
 use Rattle.rules.specs.declared.Verdict.{Verdict}
 use Rattle.rules.specs.declared.Verdict.the-variants.{Accepted, Refused}
-use Rattle.rules.specs.declared.TickAnswer.{TickAnswer}
 use Rattle.rules.specs.declared.RunAnswer.{RunAnswer}
 use Rattle.rules.specs.Verdict.{refusedIf, firstRefusal}
 use Rattle.rules.specs.Table.{planVerdict}
 use Rattle.rules.specs.Yard.{freshYard, stateVerdict, wellFormed}
-use Rattle.rules.specs.Tick.{tick, sent, tickVerdict, tickAnswer}
-use Rattle.rules.specs.Tick.Input.{recordVerdict}
-use Rattle.rules.specs.Run.{recordAt, after, engagedBytes, lengthVerdict, rollVerdict, bufferVerdict, runVerdict, ticksToDo, runAnswer, runBuffer}
+use Rattle.rules.specs.Tick.{tickVerdict, tickAnswer}
+use Rattle.rules.specs.Run.{recordAt, after, engagedBytes, lengthVerdict, rollVerdict, runVerdict, ticksToDo, runAnswer, runBuffer}
 use Rattle.rules.proofs.Answers.{first-accepted, accepted-if}
 use Rattle.rules.specs.Promises.{Kept, shown}
 use Rattle.rules.proofs.Promises.Bytes.{bytes-kept}

@@ -1,5 +1,8 @@
 pub mod Sweeps
 pub mod Bytes
+pub mod Quiet
+pub mod Pass
+pub mod Keeps
 pub mod OneTick
 pub mod Ready
 pub mod Loop

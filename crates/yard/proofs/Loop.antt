@@ -1,11 +1,13 @@
 -- One more tick of the loop: the state, the down letter and the buffer.
-use Prim.Native.Nat.{ℕ, zero, suc, _+_, _-_, _≤_, _<_}
-use native.Mathlib.Omega.{arith}
+use Prim.Native.Nat.{ℕ, _+_, _-_, _<_}
 use native.Mathlib.Numerals.{add-one}
-use mathlib.Core.Path.{_≡_, refl, sym, _∙_, ap}
-use mathlib.Core.List.{List, [], _∷_, _++_}
+use mathlib.Core.Path.{_≡_, _∙_}
+use mathlib.Core.List.{List, _++_}
 use lib.ListN.{length, drop, set}
 use Rattle.laws.proofs.Lists.{write-next}
+use Rattle.packed.specs.Packed.{unpackedAll}
+use Rattle.rules.specs.declared.Base.{Base}
+use Rattle.rules.specs.declared.Device.{Device}
 use Rattle.rules.specs.declared.Plan.{Plan}
 use Rattle.rules.specs.declared.Yard.{Yard}
 use Rattle.rules.specs.declared.Record.{Record}
@@ -16,6 +18,16 @@ use Rattle.rules.specs.Run.{recordAt, after, engagedByte, engagedBytes}
 use Rattle.rules.proofs.Runs.Formed.{bytes-length}
 use Rattle.yard.specs.Sent.{lastDown}
 use Rattle.yard.specs.Sweep.{byteOf}
+use Rattle.yard.specs.Ticks.{yardIn}
+
+-- The yard whose devices have been packed, and the one that is unpacked at the end.
+pub packed-yard : (y : Yard) (words : List ℕ) → unpackedAll words ≡ y .devices → yardIn (y .base) (y .clock) (y .lease) words ≡ y
+packed-yard y words e = λ j. record { base = y .base; clock = y .clock; lease = y .lease; devices = e j }
+
+pub unpacked-yard :
+    (base : Base) (clock lease : ℕ) (devices : List Device) (words : List ℕ) → devices ≡ unpackedAll words
+    → record { base = base; clock = clock; lease = lease; devices = devices } ≡ yardIn base clock lease words
+unpacked-yard base clock lease devices words e = λ j. record { base = base; clock = clock; lease = lease; devices = e j }
 
 module _ (p : Plan) (y : Yard) (roll buffer : List ℕ) (k : ℕ) where
   module _ (now next : Yard) (r : Record) (now-is : now ≡ after p y roll k) (r-is : r ≡ recordAt roll k) where

@@ -1,14 +1,12 @@
 -- One tick as this crate computes it is the tick of document 01.
-use Prim.Native.Nat.{ℕ, _+_, _-_, _≤_, _<_}
-use native.Mathlib.Omega.{arith}
+use Prim.Native.Nat.{ℕ, _-_, _≤_}
 use mathlib.Core.Path.{_≡_, refl, sym, _∙_, ap}
-use mathlib.Core.Bool.{Bool, true, false, cond}
+use mathlib.Core.Bool.{Bool, cond}
 use mathlib.Core.List.{List}
 use lib.Dec.{leb}
-use lib.ListN.{getD}
-use borrow.Author.Tests.{leb-true, leb-false, le-leb, lt-leb}
+use borrow.Author.Tests.{leb-true, leb-false}
 use Rattle.laws.specs.Bits.{bit}
-use Rattle.laws.proofs.Tests.{tests, case}
+use Rattle.laws.proofs.Tests.{case}
 use Rattle.laws.proofs.Lists.{tabulate-same}
 use Rattle.rules.specs.declared.Plan.{Plan}
 use Rattle.rules.specs.declared.Terms.{Terms}
@@ -23,11 +21,12 @@ use Rattle.rules.specs.Tick.{sent, tick}
 use Rattle.rules.specs.Tick.Input.{downLost}
 use Rattle.rules.specs.Tick.Step1.{eachDevice, clocked, placeClock, leaseClock, step1}
 use Rattle.rules.specs.Tick.Step2.{movedAt, step2}
-use Rattle.rules.specs.Tick.Step3.{heard, baseMove, baseIndex, letterGone, step3}
+use Rattle.rules.specs.Tick.Step3.{baseMove, baseIndex, letterGone, step3}
 use Rattle.rules.specs.Tick.Step4.{delivered, step4}
 use Rattle.rules.proofs.Ticks.Views.{each-used, each-unused, risen, turn, tick-down}
-use Rattle.yard.specs.Sweep.{deviceAt, sweep, risenBy, deliveredBy, gone, heardFrom}
+use Rattle.yard.specs.Sweep.{deviceAt, sweep, risenBy, deliveredBy, gone, heardFrom, byteOf}
 use Rattle.yard.proofs.Sweeps.{sweep-both}
+use Rattle.yard.proofs.Keeps.{byte-kept}
 
 -- Two steps, one after the other over all devices, are one pass of both.
 module _ (p : Plan) (f g : ℕ → Device → Device) (y z : Yard) (done : z .devices ≡ eachDevice p f y) where
@@ -82,6 +81,11 @@ module _ (p : Plan) (y : Yard) (r : Record) where
       unfolding device
       m-turn = m-is ∙ rw (last-is, own-is, up-risen, i-is, clock-is, lease-is, approved-is, t-is)
 
+      byte-settled : p .N ≤ 8 → byteOf (t .N) (up t) ≡ byteOf (p .N) (tick p y r .devices)
+      byte-settled few =
+          rw (up-risen, t-is, settles)
+          (sym (byte-kept (p .slots) (downLost r) (r .willing) (turn p y r .down) (p .N) (risen p y r .devices) few))
+
       devices-settled : devices ≡ tick p y r .devices
       devices-settled =
           let f = risenBy (p .Q) (t .N) (p .slots) (r .command) in
@@ -91,10 +95,12 @@ module _ (p : Plan) (y : Yard) (r : Record) where
           ∙ sym (sweep-both f (λ j d. g j (gone d)) (t .N) (y .devices))
           ∙ rw (up-risen, t-is, lost-is, m-turn) (sym settles)
 
-      -- The yard and the down letter that it answers.
+      -- The yard and the down letter that it answers, and the byte of the devices that are engaged, which the code has before
+      -- step 4.
       pub ticked :
           (record { base = m .base; clock = m .clock; lease = m .lease; devices = devices } ≡ tick p y r)
           × (m .down ≡ sent p y r .down)
+          × (p .N ≤ 8 → byteOf (t .N) (up t) ≡ byteOf (p .N) (tick p y r .devices))
       unfolding tick sent step1 step2 step3 step4
       ticked = (
         λ j.
@@ -105,4 +111,5 @@ module _ (p : Plan) (y : Yard) (r : Record) where
               devices = devices-settled j;
             },
         ap (λ (n : BaseMove). n .down) m-turn ∙ sym (tick-down p y r),
+        λ few. byte-settled few,
       )

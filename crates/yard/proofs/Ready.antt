@@ -1,12 +1,12 @@
 -- A well-formed state under an accepted plan is ready for a tick.
 use Prim.Native.Nat.{ℕ, _+_, _-_, _≤_, _<_}
 use native.Mathlib.Omega.{arith}
-use mathlib.Core.Path.{_≡_, refl, sym, _∙_, ap}
-use mathlib.Core.Bool.{Bool, true, false}
+use mathlib.Core.Path.{_≡_}
+use mathlib.Core.Bool.{true}
 use lib.Dec.{leb, ltb}
 use lib.ListN.{getD}
 use borrow.Author.Tests.{ltb-true, ltb-false, leb-true, leb-false}
-use Rattle.laws.proofs.Tests.{tests, case}
+use Rattle.laws.proofs.Tests.{case}
 use Rattle.rules.specs.declared.Plan.{Plan}
 use Rattle.rules.specs.declared.Yard.{Yard}
 use Rattle.rules.specs.declared.Base.{Base}
@@ -14,13 +14,13 @@ use Rattle.rules.specs.declared.Base.the-variants as base
 use Rattle.rules.specs.declared.Place.{Place}
 use Rattle.rules.specs.declared.Place.the-variants as place
 use Rattle.rules.specs.declared.Verdict.the-variants.{Accepted}
-use Rattle.rules.specs.Plan.{slot, LS}
+use Rattle.rules.specs.Plan.{LS}
 use Rattle.rules.specs.Table.{planVerdict}
 use Rattle.rules.specs.Yard.{device, freshDevice, wellFormed}
 use Rattle.rules.specs.Tick.Step3.{baseIndex}
-use Rattle.rules.specs.Theorems.{Time, Accepts}
+use Rattle.rules.specs.Theorems.{Accepts}
 use Rattle.rules.proofs.Plans.Accepted.{accepted-exactly}
-use Rattle.rules.proofs.States.Formed.{Leased, Based, Placed, Formed, formed-is}
+use Rattle.rules.proofs.States.Formed.{Based, Placed, Formed, formed-is}
 use Rattle.yard.specs.Ready.{Ready}
 
 module _ (p : Plan) (a : Accepts p) where
@@ -29,17 +29,17 @@ module _ (p : Plan) (a : Accepts p) where
       let s = a .deviceTimes 1 (omega arith) (omega (arith, a .devices)) in
       omega (arith, s .1 .high, s .2 .high, s .3 .high)
 
-  based-ready : (b : Base) (c l : ℕ) → Based p b c l → (baseIndex b ≤ 8) × (c ≤ 36000) × (l ≤ 108000)
+  based-ready : (b : Base) (c l : ℕ) → Based p b c l → (baseIndex b ≤ p .N) × (c ≤ 36000) × (l ≤ 108000)
   based-ready base.FallBack c l h = (omega arith, omega (arith, a .yardTimes .1 .high), omega arith)
   based-ready (base.Lease i) c l h = (
-    omega (arith, h .0 .high, a .devices),
+    h .0 .high,
     case (ltb i (p .N))
         (λ q. omega (arith, h .1 (ltb-true _ _ q), a .yardTimes .0 .high))
         (λ q. omega (arith, h .2 (ltb-false _ _ q))),
     omega (arith, h .0 .short, long),
   )
-  based-ready (base.Cancel i) c l h = (omega (arith, h .0 .high, a .devices), omega arith, omega (arith, h .0 .short, long))
-  based-ready (base.Abort i) c l h = (omega (arith, h .0 .high, a .devices), omega arith, omega (arith, h .0 .short, long))
+  based-ready (base.Cancel i) c l h = (h .0 .high, omega arith, omega (arith, h .0 .short, long))
+  based-ready (base.Abort i) c l h = (h .0 .high, omega arith, omega (arith, h .0 .short, long))
 
   placed-ready : (i : ℕ) → 1 ≤ i → i ≤ p .N → (pl : Place) (c : ℕ) → Placed p i pl c → c ≤ 36000
   placed-ready i low high place.FallBack c h = omega (arith, a .deviceTimes i low high .0 .high)

@@ -6,16 +6,15 @@ use mathlib.Core.Bool.{Bool, true, false, cond}
 use mathlib.Core.List.{List}
 use lib.Dec.{leb, eqb}
 use lib.Seq.{ext-getD, getD-set-same, getD-set-other}
-use borrow.Author.Tests.{eqb-true, eqb-false, eq-eqb, ne-eqb, le-leb, leb-true, leb-false, lt-leb}
+use borrow.Author.Tests.{eqb-true, eqb-false, eq-eqb, ne-eqb, le-leb, leb-true}
 use lib.ListN.{length, getD, set, length-set}
 use Rattle.laws.specs.Bits.{bit}
-use Rattle.laws.proofs.Tests.{tests, case}
+use Rattle.laws.proofs.Tests.{case}
 use Rattle.laws.proofs.Lists.{tabulate-at, tabulate-same, tabulate-back, swept-length, swept-none, swept-rest, swept-next}
 use Rattle.rules.specs.declared.Slot.{Slot}
 use Rattle.rules.specs.declared.Device.{Device}
 use Rattle.rules.specs.declared.Down.{Down}
 use Rattle.rules.specs.declared.Down.the-variants as down
-use Rattle.rules.specs.declared.Letter.{Letter}
 use Rattle.rules.specs.Plan.{emptySlot}
 use Rattle.rules.specs.Yard.{freshDevice}
 use Rattle.rules.specs.Tick.Step2.{moved}
@@ -77,23 +76,14 @@ module _ (f g : ℕ → Device → Device) (n : ℕ) (ds : List Device) where
           (λ q. rw q (ap (g i) (sweep-at i low high ∙ rw q)))
           (λ q. rw q (sweep-at i low high ∙ rw q))
 
--- The letter at a place, once the pass has gone one device further.
-pub letter-next :
-    (f : ℕ → Device → Device) (ds : List Device) (k a : ℕ) (x : Device) (before : Letter) → k < 8
-    → x ≡ f (k + 1) (getD ds k freshDevice)
-    → before ≡ getD (sweep k f ds) a freshDevice .letter
-    → cond (eqb k a) (x .letter) before ≡ getD (sweep (k + 1) f ds) a freshDevice .letter
-letter-next f ds k a x before h x-is before-is =
-    let next = sweep-next f ds k x h x-is in
-    case (eqb k a)
-    (λ q.
-    let same : k ≡ a = eqb-true k a q in
-    rw (q, ← next, ← same) (ap (λ (d : Device). d .letter) (sym (getD-set-same (sweep k f ds) k x freshDevice (omega (arith, sweep-length f ds k))))))
-    (λ q.
-    rw (q, ← next)
-    (before-is
-    ∙ ap (λ (d : Device). d .letter)
-    (sym (getD-set-other (sweep k f ds) k a x freshDevice (λ e. eqb-false k a q (sym e))))))
+-- A device that the pass has come to.
+pub sweep-done :
+    (f : ℕ → Device → Device) (n k : ℕ) (ds : List Device) → k < n → k < 8
+    → getD (sweep n f ds) k freshDevice ≡ f (k + 1) (getD ds k freshDevice)
+sweep-done f n k ds h few =
+    let here : deviceAt (sweep n f ds) (k + 1) ≡ f (k + 1) (deviceAt ds (k + 1)) =
+    sweep-at f f n ds (k + 1) (omega arith) (omega arith) ∙ rw (le-leb (k + 1) n (omega arith)) in
+    rw (back k) at here
 
 -- Only the device that a letter is for heeds it.
 pub arrived-other :

@@ -1,6 +1,7 @@
-// The bits of a record's bytes.
+// The bits of a record's bytes, and of a tick's.
 ghost use mathlib.Core.Path.{_≡_};
-ghost use Prim.Native.Nat.{_<_};
+ghost use mathlib.Core.Bool.{cond};
+ghost use Prim.Native.Nat.{_+_, _<_};
 ghost use Rattle.laws.specs.Bits as bits;
 
 pub(crate) fn bit(b: u8, k: usize) -> bool
@@ -10,12 +11,13 @@ pub(crate) fn bit(b: u8, k: usize) -> bool
     (b >> k) % 2 == 1
 }
 
-// Bits k and up are zero; a byte has none from 8 up.
-pub(crate) fn clear_from(k: u16, b: u8) -> bool
-    ensures { λ r. ⌜ r ≡ bits.clearFrom k b ⌝ }
+// A byte put together bit by bit, with powers of two.
+pub(crate) fn with_bit(byte: u16, power: u16, on: bool) -> u16
+    requires { ⌜ byte + power < 65536 ⌝ }
+    ensures { λ r. ⌜ r ≡ byte + cond on power 0 ⌝ }
 {
-    if 8 <= k {
-        return true;
+    if on {
+        return byte + power;
     }
-    (b >> k) == 0
+    byte
 }

@@ -10,7 +10,7 @@ ghost use Prim.Native.Nat.{_≤_};
 ghost use Rattle.rules.specs.Tick.Step1.{stopsAt, placeClock, leaseClock, deviceClock};
 ghost use Rattle.yard.specs.Sweep.{clockedBy};
 
-fn stops_at(limit: u16, clock: u16) -> u16
+pub(crate) fn stops_at(limit: u16, clock: u16) -> u16
     ensures { λ r. ⌜ r ≡ stopsAt limit clock ⌝ }
 {
     if clock < limit { clock + 1 } else { clock }

@@ -1,16 +1,22 @@
 // The devices of a tick: the pass in which they move and their letters go up, and the letter down that reaches one of them.
 use crate::bits::bit;
-use crate::clocks::clocked;
-use rules::Device;
+use crate::bits::with_bit;
+use crate::moves::goes;
+use crate::moves::leads;
+use crate::moves::slot_at;
+use packed::is_engaged;
+use packed::pack;
+use packed::unpack;
 use rules::Down;
 use rules::Letter;
-use rules::Slot;
 ghost use mathlib.Core.Path.{_≡_};
 ghost use mathlib.Core.Bool.{cond};
 ghost use Prim.Native.Nat.{ℕ, _+_, _-_, _≤_, _<_};
-ghost use lib.ListN.{getD};
-ghost use Rattle.rules.specs.Yard.{freshDevice};
-ghost use Rattle.yard.specs.Sweep.{sweep, risenBy, deliveredBy, downIndex, gone};
+ghost use lib.ListN.{length, getD};
+ghost use Rattle.packed.specs.Packed.{unpacked, unpackedAll};
+ghost use Rattle.packed.specs.Times.{slotsIn};
+ghost use Rattle.yard.specs.Times.{Timed};
+ghost use Rattle.yard.specs.Sweep.{sweep, risenBy, deliveredBy, downIndex};
 ghost use Rattle.yard.specs.Risen.{Rises};
 
 // The letter looked for: this device's where the pass has come to it, else the one found so far.
@@ -23,12 +29,12 @@ fn found(here: bool, letter: Letter, before: Letter) -> Letter
     before
 }
 
-// The devices once their letters have gone up, and two of those letters, lost or not: the initializer's, and that of the
-// device that the supervisor stands at.
+// Two of the letters that have gone up, lost or not, the initializer's and that of the device that the supervisor stands at;
+// and the byte of the devices that are engaged.
 pub(crate) struct Risen {
-    pub devices: [Device; 8],
     pub last: Letter,
     pub own: Letter,
+    pub engaged: u8,
 }
 
 // Steps 1 and 2 and the letters of step 3, in one pass: each device moves its clock on, makes its own move and is left
@@ -36,50 +42,37 @@ pub(crate) struct Risen {
 // place `own` are kept for the supervisor.
 pub(crate) fn rise(
     q: u16,
-    slots: [Slot; 8],
+    times: &[u16; 64],
     command: u8,
     last: usize,
     own: usize,
-    devices: [Device; 8],
+    words: &mut [u32; 8],
 ) -> Risen
-    requires { ⌜ (last < 8) × (own < 8) × ((k : ℕ) → k < 8 → getD devices k freshDevice .clock ≤ 36000) ⌝ }
-    ensures { λ r. ⌜ Rises (risenBy q (last + 1) slots command) (last + 1) last own devices r ⌝ }
+    requires { ⌜ (length (now words) ≡ 8) × (last < 8) × (own ≤ last) × Timed q (now times) × ((k : ℕ) → k < 8 → unpacked (getD (now words) k 0) .clock ≤ 36000) ⌝ }
+    ensures { λ r. ⌜ Rises (risenBy q (last + 1) (slotsIn (now (times .entry))) command) (last + 1) last own (unpackedAll (now (words .entry))) (unpackedAll (now (words .exit))) r ⌝ }
+    ensures { λ r. ⌜ length (now (words .exit)) ≡ 8 ⌝ }
 {
-    let mut now = devices;
-    let at_own = now[own];
-    let mut from_own = at_own.letter;
+    let mut from_own = Letter::None;
+    let mut byte: u16 = 0;
+    let mut power: u16 = 1;
     let mut k: usize = 0;
     while k < last {
-        let s = slots[k];
-        let d = clocked(s, now[k]);
-        let m = device::moved(q, s, false, 0, d);
+        let m = goes(q, times, k, words[k]);
         let letter = m.letter;
-        now[k] = without_letter(m);
+        words[k] = m.word;
         from_own = found(k == own, letter, from_own);
+        byte = with_bit(byte, power, is_engaged(m.word));
+        power = power * 2;
         k += 1;
     }
-    let s = slots[last];
-    let d = clocked(s, now[last]);
-    let m = device::moved(q, s, true, command, d);
+    let m = leads(q, times, last, command, words[last]);
     let from_last = m.letter;
-    now[last] = without_letter(m);
+    words[last] = m.word;
     let own_letter = found(last == own, from_last, from_own);
     Risen {
-        devices: now,
         last: from_last,
         own: own_letter,
-    }
-}
-
-// A device whose letter has gone up.
-fn without_letter(d: Device) -> Device
-    ensures { λ r. ⌜ r ≡ gone d ⌝ }
-{
-    let place = d.place;
-    Device {
-        clock: d.clock,
-        place,
-        letter: Letter::None,
+        engaged: with_bit(byte, power, is_engaged(m.word)) as u8,
     }
 }
 
@@ -99,30 +92,30 @@ fn down_index(l: Down) -> u8
 // Step 4: the down letter reaches the device that it is for, and no other.
 pub(crate) fn arrive(
     n: u8,
-    slots: [Slot; 8],
+    times: &[u16; 64],
     lost: bool,
     willing: u8,
     l: Down,
-    devices: [Device; 8],
-) -> [Device; 8]
-    requires { ⌜ n ≤ 8 ⌝ }
-    ensures { λ r. ⌜ r ≡ sweep n (deliveredBy slots lost willing l) devices ⌝ }
+    words: &mut [u32; 8],
+)
+    requires { ⌜ (length (now words) ≡ 8) × (n ≤ 8) ⌝ }
+    ensures { λ r. ⌜ unpackedAll (now (words .exit)) ≡ sweep n (deliveredBy (slotsIn (now (times .entry))) lost willing l) (unpackedAll (now (words .entry))) ⌝ }
+    ensures { λ r. ⌜ length (now (words .exit)) ≡ 8 ⌝ }
 {
     let i = down_index(l);
     if lost {
-        return devices;
+        return;
     }
     if i == 0 {
-        return devices;
+        return;
     }
     if n < i {
-        return devices;
+        return;
     }
-    let mut now = devices;
     let at = place_of(i);
+    let s = slot_at(times, at);
     let asked = bit(willing, at);
-    now[at] = device::arrived(slots[at], asked, l, i, now[at]);
-    now
+    words[at] = pack(device::arrived(s, asked, l, i, unpack(words[at])));
 }
 
 // Where device i stands in an array; there is no device 0, and it stands for device 1.

@@ -1,9 +1,11 @@
 // The loop that every tick goes through: the single tick and the run both lend it a roll and a buffer.
-use crate::roll::record_at;
 use crate::step::Stepped;
-use crate::step::engaged_byte;
 use crate::step::one_tick;
 use crate::step::terms_of;
+use packed::pack_all;
+use packed::times::times;
+use packed::unpack_all;
+use rolls::record_at;
 use rules::Down;
 use rules::Plan;
 use rules::Yard;
@@ -26,18 +28,31 @@ pub(crate) fn roll_on(p: Plan, y: Yard, roll: &[u8], ticks: usize, engaged: &mut
     ensures { λ r. ⌜ now (engaged .exit) ≡ engagedBytes p y (now (roll .entry)) ticks ++ drop ticks (now (engaged .entry)) ⌝ }
 {
     let t = terms_of(p);
-    let n = t.N;
-    let mut yard = y;
+    let slots = p.slots;
+    let row = times(p.Q, slots);
+    let start = y.devices;
+    let mut words = pack_all(start);
+    let mut base = y.base;
+    let mut clock = y.clock;
+    let mut lease = y.lease;
     let mut down = Down::None;
     let mut k: usize = 0;
     while k < ticks {
         let r = record_at(roll, k);
-        let s = one_tick(p, t, yard, r);
-        yard = s.yard;
+        let s = one_tick(p, t, &row, base, clock, lease, r, &mut words);
+        base = s.base;
+        clock = s.clock;
+        lease = s.lease;
         down = s.down;
-        let devices = yard.devices;
-        engaged[k] = engaged_byte(n, devices);
+        engaged[k] = s.engaged;
         k += 1;
     }
+    let devices = unpack_all(words);
+    let yard = Yard {
+        base,
+        clock,
+        lease,
+        devices,
+    };
     Stepped { yard, down }
 }

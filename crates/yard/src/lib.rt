@@ -3,12 +3,12 @@ mod bits;
 mod clocks;
 mod devices;
 mod engine;
-pub mod roll;
+mod moves;
 mod step;
 
 use engine::roll_on;
-use roll::first_bad;
-use roll::valid_record;
+use rolls::first_bad;
+use rolls::valid_record;
 use rules::Base;
 use rules::Device;
 use rules::Down;

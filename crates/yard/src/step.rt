@@ -6,24 +6,23 @@ use crate::devices::arrive;
 use crate::devices::place_of;
 use crate::devices::rise;
 use rules::Base;
-use rules::Device;
 use rules::Down;
 use rules::Letter;
-use rules::Place;
 use rules::Plan;
 use rules::Record;
 use rules::Terms;
 use rules::Yard;
 ghost use mathlib.Core.Path.{_≡_};
 ghost use mathlib.Core.Bool.{cond};
-ghost use Prim.Native.Nat.{_+_, _≤_, _<_};
+ghost use Prim.Native.Nat.{_≤_, _<_};
+ghost use lib.ListN.{length};
+ghost use Rattle.packed.specs.Times.{slotsIn};
 ghost use Rattle.rules.specs.declared.Letter.the-variants as letters;
 ghost use Rattle.rules.specs.Plan.{terms};
-ghost use Rattle.rules.specs.Yard.{engaged};
-ghost use Rattle.rules.specs.Tick.{sent, tick};
 ghost use Rattle.rules.specs.Tick.Step3.{baseIndex};
 ghost use Rattle.yard.specs.Ready.{Ready};
-ghost use Rattle.yard.specs.Sweep.{byteOf};
+ghost use Rattle.yard.specs.Times.{Timed};
+ghost use Rattle.yard.specs.Ticks.{yardIn, Ticks};
 
 // What the supervisor hears of a letter that went up.
 fn heard(lost: bool, letter: Letter) -> Letter
@@ -33,48 +32,6 @@ fn heard(lost: bool, letter: Letter) -> Letter
         return Letter::None;
     }
     letter
-}
-
-fn is_engaged(place: Place) -> bool
-    ensures { λ r. ⌜ r ≡ engaged place ⌝ }
-{
-    match place {
-        Place::FallBack => false,
-        Place::Requesting => false,
-        Place::Entering => false,
-        Place::Running => true,
-        Place::Exiting1 => true,
-        Place::Exiting2 => false,
-    }
-}
-
-fn with_bit(byte: u16, power: u16, on: bool) -> u16
-    requires { ⌜ byte + power < 65536 ⌝ }
-    ensures { λ r. ⌜ r ≡ byte + cond on power 0 ⌝ }
-{
-    if on {
-        return byte + power;
-    }
-    byte
-}
-
-// A tick's byte: bit i-1 set when device i is engaged.
-pub(crate) fn engaged_byte(n: u8, devices: [Device; 8]) -> u8
-    requires { ⌜ n ≤ 8 ⌝ }
-    ensures { λ r. ⌜ r ≡ byteOf n devices ⌝ }
-{
-    let mut byte: u16 = 0;
-    let mut power: u16 = 1;
-    let mut k: u8 = 0;
-    while k < n {
-        let at = k as usize;
-        let d = devices[at];
-        let place = d.place;
-        byte = with_bit(byte, power, is_engaged(place));
-        power = power * 2;
-        k += 1;
-    }
-    byte as u8
 }
 
 // The state at a tick's end, and the down letter that was sent in it.
@@ -114,38 +71,54 @@ fn base_index(base: Base) -> u8
     }
 }
 
-// One tick of a yard whose clocks and index are those of a well-formed state.
-pub(crate) fn one_tick(p: Plan, t: Terms, y: Yard, r: Record) -> Stepped
-    requires { ⌜ Ready p y × (t ≡ terms p) ⌝ }
-    ensures { λ s. ⌜ (s .yard ≡ tick p y r) × (s .down ≡ sent p y r .down) ⌝ }
+// What a tick leaves beside the devices: the supervisor, the down letter that was sent, and the byte of the devices that are
+// engaged.
+pub(crate) struct Ticked {
+    pub base: Base,
+    pub clock: u16,
+    pub lease: u32,
+    pub down: Down,
+    pub engaged: u8,
+}
+
+// One tick of a yard whose clocks and index are those of a well-formed state; its devices are lent, each as its number.
+pub(crate) fn one_tick(
+    p: Plan,
+    t: Terms,
+    times: &[u16; 64],
+    base: Base,
+    clock: u16,
+    lease: u32,
+    r: Record,
+    words: &mut [u32; 8],
+) -> Ticked
+    requires { ⌜ (length (now words) ≡ 8) × Ready p (yardIn base clock lease (now words)) × (t ≡ terms p) × (slotsIn (now times) ≡ p .slots) × Timed (p .Q) (now times) ⌝ }
+    ensures { λ s. ⌜ Ticks p (yardIn base clock lease (now (words .entry))) r (now (words .exit)) s ⌝ }
+    ensures { λ s. ⌜ length (now (words .exit)) ≡ 8 ⌝ }
 {
-    let slots = p.slots;
     let n = t.N;
-    let base = y.base;
-    let start = y.devices;
     let last = place_of(n);
     let own = place_of(base_index(base));
-    let up = rise(p.Q, slots, r.command, last, own, start);
+    let up = rise(p.Q, times, r.command, last, own, words);
     let from_last = up.last;
     let from_own = up.own;
-    let risen = up.devices;
     let m = base::base_move(
         t,
         bit(r.flags, 0),
         heard(bit(r.lost, last), from_last),
         heard(bit(r.lost, own), from_own),
         base,
-        place_clock(t, base, y.clock),
-        lease_clock(base, y.lease),
+        place_clock(t, base, clock),
+        lease_clock(base, lease),
     );
     let down = m.down;
     let place = m.base;
-    let devices = arrive(n, slots, bit(r.flags, 1), r.willing, down, risen);
-    let yard = Yard {
+    arrive(n, times, bit(r.flags, 1), r.willing, down, words);
+    Ticked {
         base: place,
         clock: m.clock,
         lease: m.lease,
-        devices,
-    };
-    Stepped { yard, down }
+        down,
+        engaged: up.engaged,
+    }
 }

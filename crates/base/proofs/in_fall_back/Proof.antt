@@ -2,11 +2,6 @@ use Rattle.rules.specs.Tick.Step3.{inFallBack}
 use borrow.Author.Needs.{needs}
 use Rattle.base.proofs.in_fall_back.Statement.{statement}
 use Rattle.base.proofs.in_fall_back.Tie as tie
-use Rattle.base.proofs.in_fall_back.Reads as reads
-use Rattle.base.proofs.in_fall_back.Lts as lts
-use Rattle.base.proofs.goes.Reads as goes-reads
-use Rattle.base.proofs.same_letter.Reads as same-letter-reads
-use Rattle.base.proofs.stays.Reads as stays-reads
 
 same-letter-requires : tie.Need-same-letter-requires
 same-letter-requires c κs = search needs

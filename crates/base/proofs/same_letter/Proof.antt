@@ -1,9 +1,6 @@
 use borrow.Author.Needs.{needs}
 use Rattle.base.proofs.same_letter.Statement.{statement}
 use Rattle.base.proofs.same_letter.Tie as tie
-use Rattle.base.proofs.same_letter.Reads as reads
-use Rattle.base.proofs.same_letter.Lts as lts
-use Rattle.base.proofs.letter_number.Reads as letter-number-reads
 
 -- src/lib.rt:27:5
 letter-number-requires : tie.Need-letter-number-requires

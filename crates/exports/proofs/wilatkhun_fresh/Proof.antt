@@ -1,7 +1,7 @@
 use mathlib.Core.Path.{sym, _∙_, ap}
 use lib.ListN.{length}
 use Rattle.rules.specs.declared.FreshAnswer.{FreshAnswer}
-use Rattle.exports.proofs.Lengths.{fresh-sized, fresh-same}
+use Rattle.calls.proofs.Lengths.{fresh-sized, fresh-same}
 use borrow.Author.Needs.{needs}
 use Rattle.exports.proofs.wilatkhun_fresh.Statement.{statement}
 use Rattle.exports.proofs.wilatkhun_fresh.Tie as tie

@@ -1,7 +1,7 @@
 use mathlib.Core.Path.{sym, _∙_, ap}
 use lib.ListN.{length}
-use Rattle.listing.specs.declared.Listed.{Listed}
-use Rattle.exports.proofs.Lengths.{list-sized}
+use Rattle.printed.specs.declared.Listed.{Listed}
+use Rattle.calls.proofs.Lengths.{list-sized}
 use borrow.Author.Needs.{needs}
 use Rattle.exports.proofs.wilatkhun_list.Statement.{statement}
 use Rattle.exports.proofs.wilatkhun_list.Tie as tie

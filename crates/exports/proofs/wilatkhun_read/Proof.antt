@@ -1,7 +1,7 @@
 use mathlib.Core.Path.{sym, _∙_, ap}
 use lib.ListN.{length}
-use Rattle.planfile.specs.declared.ReadAnswer.{ReadAnswer}
-use Rattle.exports.proofs.Lengths.{read-sized}
+use Rattle.files.specs.declared.ReadAnswer.{ReadAnswer}
+use Rattle.calls.proofs.Lengths.{read-sized}
 use borrow.Author.Needs.{needs}
 use Rattle.exports.proofs.wilatkhun_read.Statement.{statement}
 use Rattle.exports.proofs.wilatkhun_read.Tie as tie

@@ -1,6 +1,6 @@
 use mathlib.Core.Path.{sym, _∙_, ap}
 use Rattle.rules.specs.declared.RunAnswer.{RunAnswer}
-use Rattle.exports.proofs.Lengths.{run-sized}
+use Rattle.calls.proofs.Lengths.{run-sized}
 use borrow.Author.Needs.{needs}
 use Rattle.exports.proofs.wilatkhun_run.Statement.{statement}
 use Rattle.exports.proofs.wilatkhun_run.Tie as tie

@@ -1,6 +1,6 @@
 use mathlib.Core.Path.{sym, _∙_, ap}
 use Rattle.rules.specs.declared.TickAnswer.{TickAnswer}
-use Rattle.exports.proofs.Lengths.{tick-sized}
+use Rattle.calls.proofs.Lengths.{tick-sized}
 use borrow.Author.Needs.{needs}
 use Rattle.exports.proofs.wilatkhun_tick.Statement.{statement}
 use Rattle.exports.proofs.wilatkhun_tick.Tie as tie

@@ -1,5 +1,5 @@
 use mathlib.Core.Path.{sym, _∙_, ap}
-use Rattle.planfile.specs.declared.ReadAnswer.{ReadAnswer}
+use Rattle.files.specs.declared.ReadAnswer.{ReadAnswer}
 use Rattle.finder.specs.Piece.{piece}
 use borrow.Author.Needs.{needs}
 use Rattle.finder.proofs.locate.Statement.{statement}

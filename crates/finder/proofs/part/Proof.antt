@@ -1,13 +1,11 @@
 use Prim.Native.Nat.{ℕ, _+_, _-_}
 use mathlib.Core.List.{List}
 use native.Mathlib.Omega.{arith}
-use mathlib.Core.Path.{_≡_, refl, sym, _∙_, ap}
+use mathlib.Core.Path.{_≡_, refl, ap}
 use lib.ListN.{take, drop}
 use borrow.Author.Needs.{needs}
 use Rattle.finder.proofs.part.Statement.{statement}
 use Rattle.finder.proofs.part.Tie as tie
-use Rattle.finder.proofs.part.Reads as reads
-use Rattle.finder.proofs.part.Lts as lts
 
 add-end : tie.Need-add-end
 add-end c = search needs

@@ -1,6 +1,6 @@
 use native.Mathlib.Omega.{arith}
 use Rattle.laws.proofs.Writes.{and-then}
-use Rattle.listing.proofs.Headers.{many, tight, written}
+use Rattle.printed.proofs.Headers.{many, tight, written}
 use borrow.Author.Needs.{needs}
 use Rattle.listing.proofs.header.Statement.{statement}
 use Rattle.listing.proofs.header.Tie as tie

@@ -1,4 +1,4 @@
-use Rattle.listing.proofs.Rolls.{list-refused, go-on}
+use Rattle.printed.proofs.Rolls.{list-refused, go-on}
 use borrow.Author.Needs.{needs}
 use Rattle.listing.proofs.list.Statement.{statement}
 use Rattle.listing.proofs.list.Tie as tie

@@ -1,9 +1,6 @@
 use borrow.Author.Needs.{needs}
 use Rattle.plan.proofs.c2.Statement.{statement}
 use Rattle.plan.proofs.c2.Tie as tie
-use Rattle.plan.proofs.c2.Reads as reads
-use Rattle.plan.proofs.c2.Lts as lts
-use Rattle.plan.proofs.product.Reads as product-reads
 
 -- src/lib.rt:78:5
 product-requires : tie.Need-product-requires

@@ -1,10 +1,6 @@
 use borrow.Author.Needs.{needs}
 use Rattle.plan.proofs.c3.Statement.{statement}
 use Rattle.plan.proofs.c3.Tie as tie
-use Rattle.plan.proofs.c3.Reads as reads
-use Rattle.plan.proofs.c3.Lts as lts
-use Rattle.plan.proofs.product.Reads as product-reads
-use Rattle.plan.proofs.wide.Reads as wide-reads
 
 -- src/lib.rt:85:14
 sub-product : tie.Need-sub-product

@@ -4,10 +4,6 @@ use native.Mathlib.Nat.{mul-le-mul}
 use borrow.Author.Needs.{needs}
 use Rattle.plan.proofs.c4.Statement.{statement}
 use Rattle.plan.proofs.c4.Tie as tie
-use Rattle.plan.proofs.c4.Reads as reads
-use Rattle.plan.proofs.c4.Lts as lts
-use Rattle.plan.proofs.product.Reads as product-reads
-use Rattle.plan.proofs.stay.Reads as stay-reads
 
 -- src/lib.rt:93:5
 product-requires : tie.Need-product-requires

@@ -1,9 +1,6 @@
 use borrow.Author.Needs.{needs}
 use Rattle.plan.proofs.c5.Statement.{statement}
 use Rattle.plan.proofs.c5.Tie as tie
-use Rattle.plan.proofs.c5.Reads as reads
-use Rattle.plan.proofs.c5.Lts as lts
-use Rattle.plan.proofs.wide.Reads as wide-reads
 
 -- src/lib.rt:99:5
 wide-requires : tie.Need-wide-requires

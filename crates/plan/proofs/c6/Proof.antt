@@ -1,10 +1,6 @@
 use borrow.Author.Needs.{needs}
 use Rattle.plan.proofs.c6.Statement.{statement}
 use Rattle.plan.proofs.c6.Tie as tie
-use Rattle.plan.proofs.c6.Reads as reads
-use Rattle.plan.proofs.c6.Lts as lts
-use Rattle.plan.proofs.stay.Reads as stay-reads
-use Rattle.plan.proofs.wide.Reads as wide-reads
 
 -- src/lib.rt:105:5
 wide-requires : tie.Need-wide-requires

@@ -1,19 +1,13 @@
 use Rattle.rules.specs.declared.Plan.{Plan}
 use mathlib.Core.Logic.{⊎-elim}
-use Prim.Native.Nat.{ℕ, suc, _+_, _-_, _≤_, _<_}
+use Prim.Native.Nat.{ℕ, suc, _-_, _≤_}
 use native.Mathlib.Omega.{arith}
-use mathlib.Core.Path.{_≡_, refl, sym, _∙_, ap}
+use mathlib.Core.Path.{_≡_, refl, _∙_}
 use borrow.Author.Needs.{needs}
 use Rattle.plan.proofs.Least.{least, leastAt, less, no-less}
 use Rattle.plan.proofs.Verdict.{found, ends-accepted, ends-refused}
 use Rattle.plan.proofs.check.Statement.{statement}
 use Rattle.plan.proofs.check.Tie as tie
-use Rattle.plan.proofs.check.Reads as reads
-use Rattle.plan.proofs.check.Lts as lts
-use Rattle.plan.proofs.place_after.Reads as place-after-reads
-use Rattle.plan.proofs.slot_line.Reads as slot-line-reads
-use Rattle.plan.proofs.stay.Reads as stay-reads
-use Rattle.plan.proofs.yard_line.Reads as yard-line-reads
 
 abbrev Inv-loop : tie.InvT-loop
 Inv-loop n w slots ls line₀ at₀ k₀ line at k =

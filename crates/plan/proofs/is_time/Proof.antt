@@ -4,8 +4,6 @@ use Rattle.laws.proofs.Tests.{all-is}
 use Rattle.rules.specs.Plan.{isTime}
 use Rattle.plan.proofs.is_time.Statement.{statement}
 use Rattle.plan.proofs.is_time.Tie as tie
-use Rattle.plan.proofs.is_time.Reads as reads
-use Rattle.plan.proofs.is_time.Lts as lts
 
 -- src/lib.rt:33:1
 returns : tie.Need-returns

@@ -3,8 +3,6 @@ use borrow.Author.Tests.{lt-ltb, le-ltb}
 use borrow.Author.Needs.{needs}
 use Rattle.plan.proofs.place_after.Statement.{statement}
 use Rattle.plan.proofs.place_after.Tie as tie
-use Rattle.plan.proofs.place_after.Reads as reads
-use Rattle.plan.proofs.place_after.Lts as lts
 
 -- src/lib.rt:202:9
 add-result : tie.Need-add-result

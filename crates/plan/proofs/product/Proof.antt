@@ -4,9 +4,6 @@ use mir.Facts.{fits-le, fits-lit}
 use borrow.Author.Needs.{needs}
 use Rattle.plan.proofs.product.Statement.{statement}
 use Rattle.plan.proofs.product.Tie as tie
-use Rattle.plan.proofs.product.Reads as reads
-use Rattle.plan.proofs.product.Lts as lts
-use Rattle.plan.proofs.wide.Reads as wide-reads
 
 -- src/lib.rt:22:5
 wide-requires : tie.Need-wide-requires

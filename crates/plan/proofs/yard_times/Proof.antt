@@ -1,9 +1,6 @@
 use borrow.Author.Needs.{needs}
 use Rattle.plan.proofs.yard_times.Statement.{statement}
 use Rattle.plan.proofs.yard_times.Tie as tie
-use Rattle.plan.proofs.yard_times.Reads as reads
-use Rattle.plan.proofs.yard_times.Lts as lts
-use Rattle.plan.proofs.is_time.Reads as is-time-reads
 
 -- src/lib.rt:48:5
 is-time-requires : tie.Need-is-time-requires

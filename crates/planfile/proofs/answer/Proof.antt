@@ -1,4 +1,4 @@
-use Rattle.planfile.specs.File.{answerOf}
+use Rattle.files.specs.File.{answerOf}
 use borrow.Author.Needs.{needs}
 use Rattle.planfile.proofs.answer.Statement.{statement}
 use Rattle.planfile.proofs.answer.Tie as tie

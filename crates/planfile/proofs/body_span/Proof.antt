@@ -1,12 +1,8 @@
 use native.Mathlib.Omega.{arith}
-use Rattle.planfile.proofs.Files.{short-span, refused-span, taken-span, starts-within}
+use Rattle.files.proofs.Files.{short-span, refused-span, taken-span, starts-within}
 use borrow.Author.Needs.{needs}
 use Rattle.planfile.proofs.body_span.Statement.{statement}
 use Rattle.planfile.proofs.body_span.Tie as tie
-use Rattle.planfile.proofs.body_span.Reads as reads
-use Rattle.planfile.proofs.body_span.Lts as lts
-use Rattle.planfile.proofs.judge.Reads as judge-reads
-use Rattle.planfile.proofs.read_trailer.Reads as read-trailer-reads
 
 returns : tie.Need-returns
 returns c = short-span (c .before .before .args .file .now) (c .if1 .taken)

@@ -1,7 +1,7 @@
 use Prim.Native.Nat.{_-_}
 use native.Mathlib.Omega.{arith}
 use mathlib.Core.Path.{_≡_, refl, sym}
-use Rattle.planfile.specs.File.{devicesFor}
+use Rattle.files.specs.File.{devicesFor}
 use Rattle.planfile.proofs.devices_for.Statement.{statement}
 use Rattle.planfile.proofs.devices_for.Tie as tie
 

@@ -1,6 +1,6 @@
 use mathlib.Core.Path.{refl}
 use Rattle.laws.specs.Lists.{tabulate}
-use Rattle.planfile.specs.File.{emptyPlan}
+use Rattle.files.specs.File.{emptyPlan}
 use Rattle.planfile.proofs.empty_plan.Statement.{statement}
 use Rattle.planfile.proofs.empty_plan.Tie as tie
 

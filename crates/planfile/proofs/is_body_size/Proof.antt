@@ -1,5 +1,5 @@
 use native.Mathlib.Omega.{arith}
-use Rattle.planfile.specs.File.{devicesFor, isBodySize}
+use Rattle.files.specs.File.{devicesFor, isBodySize}
 use borrow.Author.Needs.{needs}
 use Rattle.planfile.proofs.is_body_size.Statement.{statement}
 use Rattle.planfile.proofs.is_body_size.Tie as tie

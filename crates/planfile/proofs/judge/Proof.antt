@@ -1,6 +1,6 @@
 use borrow.Author.Tests.{eq-eqb, ne-eqb}
 use Rattle.rules.specs.Verdict.{firstRefusal}
-use Rattle.planfile.specs.File.{trailerVerdict}
+use Rattle.files.specs.File.{trailerVerdict}
 use borrow.Author.Needs.{needs}
 use Rattle.planfile.proofs.judge.Statement.{statement}
 use Rattle.planfile.proofs.judge.Tie as tie

@@ -1,6 +1,6 @@
 use mathlib.Core.Path.{refl, _∙_}
 use native.Mathlib.Omega.{arith}
-use Rattle.planfile.proofs.Files.{short-refused, trailer-refused, starts-within, ends-within, devices-fit, trailer-taken}
+use Rattle.files.proofs.Files.{short-refused, trailer-refused, starts-within, ends-within, devices-fit, trailer-taken}
 use borrow.Author.Needs.{needs}
 use Rattle.planfile.proofs.read.Statement.{statement}
 use Rattle.planfile.proofs.read.Tie as tie

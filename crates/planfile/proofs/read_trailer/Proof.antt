@@ -1,4 +1,4 @@
-use Rattle.planfile.specs.File.{trailerIn}
+use Rattle.files.specs.File.{trailerIn}
 use borrow.Author.Needs.{needs}
 use Rattle.planfile.proofs.read_trailer.Statement.{statement}
 use Rattle.planfile.proofs.read_trailer.Tie as tie

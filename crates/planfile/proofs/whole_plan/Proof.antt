@@ -1,4 +1,4 @@
-use Rattle.planfile.specs.File.{wholePlan}
+use Rattle.files.specs.File.{wholePlan}
 use borrow.Author.Tests.{eq-eqb, ne-eqb}
 use borrow.Author.Needs.{needs}
 use Rattle.planfile.proofs.whole_plan.Statement.{statement}

@@ -3,12 +3,6 @@ use lib.ListN.{length}
 use borrow.Author.Needs.{needs}
 use Rattle.rehearsal.proofs.say_lines.Statement.{statement}
 use Rattle.rehearsal.proofs.say_lines.Tie as tie
-use Rattle.rehearsal.proofs.say_lines.Reads as reads
-use Rattle.rehearsal.proofs.say_lines.Lts as lts
-use Rattle.listing.proofs.list.Reads as list-reads
-use Rattle.rehearsal.proofs.say_first.Reads as say-first-reads
-use Rattle.std.proofs.num.wrapping_add_u32.Reads as wrapping-add-u32-reads
-use Rattle.std.proofs.num.wrapping_add_usize.Reads as wrapping-add-usize-reads
 
 abbrev Inv-loop : tie.InvT-loop
 Inv-loop p roll block₀ y₀ from₀ first₀ turns₀ block y from first turns = length block ≡ 65536

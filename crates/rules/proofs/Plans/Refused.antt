@@ -1,12 +1,11 @@
 -- Theorem 2: a plan is refused with the first line that it breaks, at that line's lowest index.
 use Prim.Native.Nat.{ℕ, zero, suc, _≤_, _<_}
 use native.Mathlib.Omega.{arith}
-use mathlib.Core.Path.{_≡_, refl, sym, _∙_}
-use mathlib.Core.Bool.{Bool, true, false}
-use mathlib.Core.List.{[], _∷_}
+use mathlib.Core.Path.{_≡_, refl}
+use mathlib.Core.Bool.{true, false}
 use lib.Dec.{leb, ltb, eqb}
 use borrow.Author.Tests.{ltb-true, leb-true, eqb-true}
-use Rattle.laws.proofs.Tests.{tests, case, clash, all-hold, fails}
+use Rattle.laws.proofs.Tests.{tests, case, clash, all-hold}
 use Rattle.rules.specs.declared.Plan.{Plan}
 use Rattle.rules.specs.declared.Verdict.the-variants.{Accepted, Refused}
 use Rattle.rules.specs.Table.{line1, table, broken, lineVerdict, planVerdict}

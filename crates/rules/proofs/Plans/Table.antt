@@ -2,14 +2,13 @@
 -- keeps it unbroken. No line is broken beyond the eight slots.
 use Prim.Native.Nat.{ℕ, zero, suc, _+_, _-_, _≤_, _<_}
 use native.Mathlib.Omega.{arith}
-use mathlib.Core.Path.{_≡_, refl, sym, _∙_, ap}
-use mathlib.Core.Bool.{Bool, true, false, not, _&&_}
-use mathlib.Core.List.{[], _∷_}
-use lib.Dec.{leb, ltb, eqb}
-use lib.ListN.{length, getD, List·getD-eq-default}
-use borrow.Author.Tests.{ltb-true, leb-true, eqb-true, lt-ltb, le-leb, le-ltb, lt-leb, ne-eqb, not-false}
-use Rattle.laws.specs.Tests.{allOf, anyOf, lowest}
-use Rattle.laws.proofs.Tests.{tests, case, clash, not-of, Hold, NoneHolds, all-hold, all-of, none-hold, none-of, none-at, lowest-most, lowest-none, lowest-holds, lowest-is, lowest-is-none}
+use mathlib.Core.Path.{_≡_, refl, ap}
+use mathlib.Core.Bool.{Bool, true, false}
+use lib.Dec.{ltb, eqb}
+use lib.ListN.{getD, List·getD-eq-default}
+use borrow.Author.Tests.{ltb-true, eqb-true, lt-ltb, le-leb, not-false}
+use Rattle.laws.specs.Tests.{lowest}
+use Rattle.laws.proofs.Tests.{tests, NoneHolds, all-hold, all-of, none-of, none-at, lowest-none, lowest-holds, lowest-is, lowest-is-none}
 use Rattle.rules.specs.declared.Plan.{Plan}
 use Rattle.rules.specs.declared.Verdict.the-variants.{Accepted, Refused}
 use Rattle.rules.specs.Plan.{slot, emptySlot, isTime, isDevice, isPair, isAbove}

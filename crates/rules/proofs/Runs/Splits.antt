@@ -1,15 +1,13 @@
 -- Theorem 4: a run over the first a ticks and then over the rest is one run over all.
-use Prim.Native.Nat.{ℕ, zero, suc, _+_, _*_, _≤_, _<_}
+use Prim.Native.Nat.{ℕ, zero, suc, _+_, _*_}
 use native.Mathlib.Omega.{arith}
 use native.Mathlib.Nat.{add-zero, add-suc}
-use mathlib.Core.Path.{_≡_, refl, sym, _∙_, ap, ap₂}
+use mathlib.Core.Path.{_≡_, sym, _∙_, ap, ap₂}
 use mathlib.Core.List.{List, [], _∷_, _++_, append-assoc, append-nil}
 use lib.ListN.{getD, drop}
 use lib.Seq.{getD-drop}
 use Rattle.rules.specs.declared.Plan.{Plan}
 use Rattle.rules.specs.declared.Yard.{Yard}
-use Rattle.rules.specs.declared.Record.{Record}
-use Rattle.rules.specs.Tick.{tick}
 use Rattle.rules.specs.Run.{recordAt, after, engagedByte, engagedBytes}
 use Rattle.rules.specs.Theorems.{RunSplits}
 

@@ -1,13 +1,10 @@
 -- A well-formed state, read as facts: what the tests of `wellFormed` say, both ways.
 use Prim.Native.Nat.{ℕ, zero, suc, _≤_, _<_}
-use native.Mathlib.Omega.{arith}
 use mathlib.Core.Path.{_≡_, refl, sym, _∙_, ap}
-use mathlib.Core.Bool.{Bool, true, false, cond, false≢true}
-use mathlib.Core.List.{[], _∷_}
-use lib.Dec.{leb, ltb, eqb}
+use mathlib.Core.Bool.{true, false, false≢true}
+use lib.Dec.{leb, ltb}
 use borrow.Author.Tests.{ltb-true, ltb-false, leb-true, leb-false, eqb-true, lt-ltb, le-ltb, le-leb, lt-leb, eq-eqb}
-use Rattle.laws.specs.Tests.{allOf, each}
-use Rattle.laws.proofs.Tests.{tests, case, all-hold, all-of, each-holds, each-of}
+use Rattle.laws.proofs.Tests.{case, all-hold, all-of, each-holds, each-of}
 use Rattle.rules.specs.declared.Plan.{Plan}
 use Rattle.rules.specs.declared.Base.{Base}
 use Rattle.rules.specs.declared.Base.the-variants as base
@@ -17,7 +14,7 @@ use Rattle.rules.specs.declared.Letter.{Letter}
 use Rattle.rules.specs.declared.Letter.the-variants as letter
 use Rattle.rules.specs.declared.Device.{Device}
 use Rattle.rules.specs.declared.Yard.{Yard}
-use Rattle.rules.specs.Plan.{slot, LS, isDevice, isPair}
+use Rattle.rules.specs.Plan.{slot, LS, isDevice}
 use Rattle.rules.specs.Yard.{at, device, freshDevice, placeNumber, letterNumber, samePlace, sameLetter, indexFormed, clockFormed, leaseFormed, placeFormed, letterFormed, isFresh, deviceFormed, baseFormed, wellFormed}
 use Rattle.rules.proofs.Plans.Table.{device-is, is-device, pair-is, is-pair}
 

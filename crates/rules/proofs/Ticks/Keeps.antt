@@ -1,21 +1,18 @@
 -- Theorem 3: under an accepted plan a tick keeps a well-formed state well formed.
 pub mod Devices
 pub mod Base
-use Prim.Native.Nat.{ℕ, _≤_, _<_}
-use native.Mathlib.Omega.{arith}
-use mathlib.Core.Path.{_≡_, sym, _∙_, subst}
+use Prim.Native.Nat.{ℕ, _≤_}
+use mathlib.Core.Path.{_∙_}
 use Rattle.rules.specs.declared.Plan.{Plan}
 use Rattle.rules.specs.declared.Yard.{Yard}
 use Rattle.rules.specs.declared.Record.{Record}
-use Rattle.rules.specs.declared.Device.{Device}
 use Rattle.rules.specs.Yard.{device}
 use Rattle.rules.specs.Tick.{tick}
 use Rattle.rules.specs.Tick.Input.{approval}
-use Rattle.rules.specs.Tick.Step3.{heard}
 use Rattle.rules.specs.Theorems.{Accepts, TickKeepsForm}
 use Rattle.rules.proofs.Plans.Accepted.{accepted-exactly}
-use Rattle.rules.proofs.States.Formed.{Based, Formed, formed-is, is-formed}
-use Rattle.rules.proofs.Ticks.Views.{risen, turn, up, tick-used, tick-unused, tick-base, tick-clock, tick-lease}
+use Rattle.rules.proofs.States.Formed.{Formed, formed-is, is-formed}
+use Rattle.rules.proofs.Ticks.Views.{turn, up, tick-used, tick-unused, tick-base, tick-clock, tick-lease}
 
 module _ (p : Plan) (a : Accepts p) (y : Yard) (r : Record) (f : Formed p y) where
   sound : Base.Sound p a (turn p y r)

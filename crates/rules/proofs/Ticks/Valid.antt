@@ -1,14 +1,9 @@
 -- A record is taken exactly when its command is one of three and all other bits are zero.
-use Prim.Native.Nat.{ℕ}
-use mathlib.Core.Path.{_≡_}
-use mathlib.Core.Logic.{_↔_}
 use borrow.Author.Tests.{leb-true, le-leb}
 use Rattle.laws.proofs.Tests.{all-hold, all-of}
 use Rattle.laws.proofs.Bits.{clear-exactly}
-use Rattle.rules.specs.declared.Plan.{Plan}
-use Rattle.rules.specs.declared.Record.{Record}
 use Rattle.rules.specs.Tick.Input.{validRecord}
-use Rattle.rules.specs.Theorems.{Valid, ValidExactly}
+use Rattle.rules.specs.Theorems.{ValidExactly}
 
 pub valid-exactly : ValidExactly
 unfolding validRecord

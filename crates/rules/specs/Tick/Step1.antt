@@ -1,7 +1,7 @@
 -- Document 01, "One tick", step 1: these clocks add 1: the place clock in Fall-Back and in Lease i with i < N, the lease
 -- clock outside Fall-Back, those of devices 1 to N. Fall-Back clocks stop at B or F.
 use Prim.Native.Nat.{ℕ, _+_}
-use mathlib.Core.Bool.{Bool, cond}
+use mathlib.Core.Bool.{cond}
 use mathlib.Core.List.{List}
 use lib.Dec.{ltb}
 use Rattle.laws.specs.Lists.{swept}

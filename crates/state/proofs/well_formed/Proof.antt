@@ -12,10 +12,6 @@ use Rattle.rules.specs.Yard.{device, wellFormed}
 use Rattle.state.proofs.Devices.{formedAt, formed-here}
 use Rattle.state.proofs.well_formed.Statement.{statement}
 use Rattle.state.proofs.well_formed.Tie as tie
-use Rattle.state.proofs.well_formed.Reads as reads
-use Rattle.state.proofs.well_formed.Lts as lts
-use Rattle.state.proofs.base_formed.Reads as base-formed-reads
-use Rattle.state.proofs.device_formed.Reads as device-formed-reads
 
 abbrev Inv-loop : tie.InvT-loop
 Inv-loop p devices k₀ k = (k ≤ 8) × (each (formedAt p devices) k ≡ true)

@@ -3,12 +3,6 @@ use lib.ListN.{length}
 use borrow.Author.Needs.{needs}
 use Rattle.vectors.proofs.main.Statement.{statement}
 use Rattle.vectors.proofs.main.Tie as tie
-use Rattle.vectors.proofs.main.Reads as reads
-use Rattle.vectors.proofs.main.Lts as lts
-use Rattle.io.proofs.print_decimal.Reads as print-decimal-reads
-use Rattle.io.proofs.write_all.Reads as write-all-reads
-use Rattle.std.proofs.num.wrapping_add_u64.Reads as wrapping-add-u64-reads
-use Rattle.vectors.proofs.next_case.Reads as next-case-reads
 
 abbrev Inv-loop : tie.InvT-loop
 Inv-loop file₀ roll₀ turns₀ cases₀ wrong₀ t7 t8 file roll turns cases wrong = (length file ≡ 70000) × (length roll ≡ 70000)

@@ -1,6 +1,5 @@
 use Prim.Native.Nat.{ℕ}
 use native.Mathlib.Omega.{arith}
-use mathlib.Core.Path.{sym, _∙_}
 use mathlib.Core.List.{List}
 use Rattle.rules.specs.declared.Plan.{Plan}
 use Rattle.rules.specs.declared.Yard.{Yard}
@@ -8,11 +7,6 @@ use Rattle.yard.proofs.Answers.{run-refused, run-taken, run-accepted, r
 use borrow.Author.Needs.{needs}
 use Rattle.yard.proofs.run.Statement.{statement}
 use Rattle.yard.proofs.run.Tie as tie
-use Rattle.yard.proofs.run.Reads as reads
-use Rattle.yard.proofs.run.Lts as lts
-use Rattle.yard.proofs.engine.roll_on.Reads as roll-on-reads
-use Rattle.yard.proofs.run_verdict.Reads as run-verdict-reads
-use Rattle.yard.proofs.smaller.Reads as smaller-reads
 
 smaller-requires : tie.Need-smaller-requires
 smaller-requires c κs = search needs

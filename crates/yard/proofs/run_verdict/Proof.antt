@@ -7,11 +7,6 @@ use Rattle.yard.specs.Refusals.{verdictFor}
 use borrow.Author.Needs.{needs}
 use Rattle.yard.proofs.run_verdict.Statement.{statement}
 use Rattle.yard.proofs.run_verdict.Tie as tie
-use Rattle.yard.proofs.run_verdict.Reads as reads
-use Rattle.yard.proofs.run_verdict.Lts as lts
-use Rattle.plan.proofs.check.Reads as check-reads
-use Rattle.state.proofs.well_formed.Reads as well-formed-reads
-use Rattle.yard.proofs.roll.first_bad.Reads as first-bad-reads
 
 check-requires : tie.Need-check-requires
 check-requires c κs = search needs

@@ -4,10 +4,6 @@ use Rattle.yard.proofs.Answers.{tick-taken, tick-refused, tick-accepted
 use borrow.Author.Needs.{needs}
 use Rattle.yard.proofs.tick.Statement.{statement}
 use Rattle.yard.proofs.tick.Tie as tie
-use Rattle.yard.proofs.tick.Reads as reads
-use Rattle.yard.proofs.tick.Lts as lts
-use Rattle.yard.proofs.engine.roll_on.Reads as roll-on-reads
-use Rattle.yard.proofs.tick_verdict.Reads as tick-verdict-reads
 
 tick-verdict-requires : tie.Need-tick-verdict-requires
 tick-verdict-requires c κs = search needs

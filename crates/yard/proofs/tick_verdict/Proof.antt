@@ -6,11 +6,6 @@ use Rattle.rules.specs.Tick.Input.{recordVerdict}
 use borrow.Author.Needs.{needs}
 use Rattle.yard.proofs.tick_verdict.Statement.{statement}
 use Rattle.yard.proofs.tick_verdict.Tie as tie
-use Rattle.yard.proofs.tick_verdict.Reads as reads
-use Rattle.yard.proofs.tick_verdict.Lts as lts
-use Rattle.plan.proofs.check.Reads as check-reads
-use Rattle.state.proofs.well_formed.Reads as well-formed-reads
-use Rattle.yard.proofs.roll.valid_record.Reads as valid-record-reads
 
 check-requires : tie.Need-check-requires
 check-requires c κs = search needs

@@ -1,4 +1,4 @@
-use Rattle.exports.proofs.Sizes.{plan-fills}
+use Rattle.calls.proofs.Sizes.{plan-fills}
 use borrow.Author.Needs.{needs}
 use Rattle.exports.proofs.answers.keep_plan.Statement.{statement}
 use Rattle.exports.proofs.answers.keep_plan.Tie as tie

@@ -1,4 +1,4 @@
-use Rattle.exports.proofs.Sizes.{yard-fills}
+use Rattle.calls.proofs.Sizes.{yard-fills}
 use borrow.Author.Needs.{needs}
 use Rattle.exports.proofs.answers.keep_yard.Statement.{statement}
 use Rattle.exports.proofs.answers.keep_yard.Tie as tie

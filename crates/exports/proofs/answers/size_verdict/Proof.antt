@@ -1,4 +1,4 @@
-use Rattle.exports.specs.Asked.{sizeVerdict}
+use Rattle.calls.specs.Asked.{sizeVerdict}
 use Rattle.exports.proofs.answers.size_verdict.Statement.{statement}
 use Rattle.exports.proofs.answers.size_verdict.Tie as tie
 

@@ -1,5 +1,5 @@
 use mathlib.Core.Path.{sym, _∙_}
-use Rattle.exports.specs.Asked.{checkFor}
+use Rattle.calls.specs.Asked.{checkFor}
 use borrow.Author.Needs.{needs}
 use Rattle.exports.proofs.asked.check_for.Statement.{statement}
 use Rattle.exports.proofs.asked.check_for.Tie as tie

@@ -1,6 +1,6 @@
 use mathlib.Core.Path.{sym, _∙_}
 use Rattle.rules.specs.Yard.{freshAnswer}
-use Rattle.exports.specs.Asked.{freshFor}
+use Rattle.calls.specs.Asked.{freshFor}
 use borrow.Author.Needs.{needs}
 use Rattle.exports.proofs.asked.fresh_for.Statement.{statement}
 use Rattle.exports.proofs.asked.fresh_for.Tie as tie

@@ -1,6 +1,6 @@
 use mathlib.Core.Path.{sym, _∙_}
 use mathlib.Core.Path.{refl}
-use Rattle.exports.specs.Asked.{listFor, textFor}
+use Rattle.calls.specs.Asked.{listFor, textFor}
 use borrow.Author.Needs.{needs}
 use Rattle.exports.proofs.asked.list_for.Statement.{statement}
 use Rattle.exports.proofs.asked.list_for.Tie as tie

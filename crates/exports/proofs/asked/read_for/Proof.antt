@@ -1,5 +1,5 @@
 use mathlib.Core.Path.{sym, _∙_}
-use Rattle.exports.specs.Asked.{readFor}
+use Rattle.calls.specs.Asked.{readFor}
 use borrow.Author.Needs.{needs}
 use Rattle.exports.proofs.asked.read_for.Statement.{statement}
 use Rattle.exports.proofs.asked.read_for.Tie as tie

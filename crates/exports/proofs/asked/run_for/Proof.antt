@@ -1,7 +1,7 @@
 use mathlib.Core.Path.{sym, _∙_}
 use mathlib.Core.Path.{refl}
-use Rattle.exports.proofs.Sizes.{nothing-done}
-use Rattle.exports.specs.Asked.{runFor, engagedFor}
+use Rattle.calls.proofs.Sizes.{nothing-done}
+use Rattle.calls.specs.Asked.{runFor, engagedFor}
 use borrow.Author.Needs.{needs}
 use Rattle.exports.proofs.asked.run_for.Statement.{statement}
 use Rattle.exports.proofs.asked.run_for.Tie as tie

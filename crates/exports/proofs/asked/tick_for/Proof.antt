@@ -1,5 +1,5 @@
 use mathlib.Core.Path.{sym, _∙_}
-use Rattle.exports.specs.Asked.{tickFor}
+use Rattle.calls.specs.Asked.{tickFor}
 use borrow.Author.Needs.{needs}
 use Rattle.exports.proofs.asked.tick_for.Statement.{statement}
 use Rattle.exports.proofs.asked.tick_for.Tie as tie

@@ -1,24 +1,46 @@
-use Rattle.layout.specs.Bytes.{twoBytes}
+use native.Mathlib.Omega.{arith}
+use mathlib.Core.Path.{refl}
+use lib.ListN.{length-set}
+use Rattle.laws.proofs.Writes.{two-bytes}
+use Rattle.encoded.specs.Bytes.{twoBytes}
 use borrow.Author.Needs.{needs}
 use Rattle.layout.proofs.numbers.put_two.Statement.{statement}
 use Rattle.layout.proofs.numbers.put_two.Tie as tie
 
-cast-put-pair : tie.Need-cast-put-pair
-cast-put-pair c = search needs
+cast-out : tie.Need-cast-out
+cast-out c = search needs
 
-cast-put-pair-2 : tie.Need-cast-put-pair-2
-cast-put-pair-2 c = search needs
+slice-write-out : tie.Need-slice-write-out
+slice-write-out c = search needs
 
-put-pair-requires : tie.Need-put-pair-requires
-put-pair-requires c κs = search needs
+cast-out-2 : tie.Need-cast-out-2
+cast-out-2 c = search needs
+
+add-out : tie.Need-add-out
+add-out c = search needs
+
+slice-write-out-2 : tie.Need-slice-write-out-2
+slice-write-out-2 c = simp length-set (omega arith)
+
+add-result : tie.Need-add-result
+add-result c = search needs
 
 same-length : tie.Need-same-length
 same-length c = search needs
 
 returns : tie.Need-returns
 unfolding twoBytes
-returns c = c .before .before .put-pair .ensures
+returns c = (two-bytes _ _ _ _, refl)
 
 pub put-two-spec : {M : Type 1} → statement M
 put-two-spec =
-    tie.close (tie.spec cast-put-pair cast-put-pair-2 put-pair-requires same-length returns)
+    tie.close
+    (tie.spec
+    cast-out
+    slice-write-out
+    cast-out-2
+    add-out
+    slice-write-out-2
+    add-result
+    same-length
+    returns)

@@ -2,8 +2,8 @@ use native.Mathlib.Omega.{arith}
 use mathlib.Core.Path.{refl}
 use borrow.Author.Tests.{le-leb, lt-leb}
 use Rattle.laws.proofs.Writes.{and-then, at-front}
-use Rattle.layout.specs.Bytes.{bodyBytes, bodyWritten}
-use Rattle.layout.proofs.Widths.{body-wide}
+use Rattle.encoded.specs.Bytes.{twoBytes, bodyBytes, bodyWritten}
+use Rattle.encoded.proofs.Widths.{body-wide}
 use borrow.Author.Needs.{needs}
 use Rattle.layout.proofs.plan.put.Statement.{statement}
 use Rattle.layout.proofs.plan.put.Tie as tie
@@ -22,17 +22,11 @@ returns-2 : tie.Need-returns-2
 unfolding bodyWritten
 returns-2 c = rw (le-leb _ 8 (c .before .if1 .left), lt-leb _ _ (c .if2 .taken)) (refl, refl)
 
-put-two-requires : tie.Need-put-two-requires
-put-two-requires c κs = search needs
+put-twos-requires : tie.Need-put-twos-requires
+put-twos-requires c κs = search needs
 
-put-two-requires-2 : tie.Need-put-two-requires-2
-put-two-requires-2 c κs = search needs
-
-put-two-requires-3 : tie.Need-put-two-requires-3
-put-two-requires-3 c κs = search needs
-
-put-two-requires-4 : tie.Need-put-two-requires-4
-put-two-requires-4 c κs = search needs
+put-twos-requires-2 : tie.Need-put-twos-requires-2
+put-twos-requires-2 c κs = search needs
 
 put-slots-requires : tie.Need-put-slots-requires
 put-slots-requires c κs = search needs
@@ -41,16 +35,13 @@ same-length : tie.Need-same-length
 same-length c = search needs
 
 returns-3 : tie.Need-returns-3
-unfolding bodyWritten bodyBytes
+unfolding bodyWritten bodyBytes twoBytes
 returns-3 c =
-    let a = c .before .before .before .before .before .before .before .before .before .before .before .before .before .before .before .before .before .before .before .before .before .before .before .before .args in
-    let room = c .before .before .before .before .before .before .before .before .before .before .before .before .before .before .before .before .before .before .before .before .before .if2 .left in
-    let N = c .before .before .before .before .before .before .before .before .before .before .before .before .before .before .before .before .before .before .before .put-two .ensures .0 in
-    let W = c .before .before .before .before .before .before .before .before .before .before .before .before .before .before .before .put-two2 .ensures .0 in
-    let B = c .before .before .before .before .before .before .before .before .before .before .before .put-two3 .ensures .0 in
-    let Q = c .before .before .before .before .before .before .before .put-two4 .ensures .0 in
-    let all = and-then (and-then (and-then (and-then N W) B) Q) (c .before .before .put-slots .ensures) in
-    rw (le-leb _ 8 (c .before .before .before .before .before .before .before .before .before .before .before .before .before .before .before .before .before .before .before .before .before .before .if1 .left), le-leb _ _ room) (at-front all (omega (arith, room, body-wide (a .p) (a .n))))
+    let a = c .before .before .before .before .before .before .before .before .before .before .before .before .before .before .before .before .args in
+    let room = c .before .before .before .before .before .before .before .before .before .before .before .before .before .if2 .left in
+    let head = and-then (c .before .before .before .before .before .before .before .before .before .before .before .put-twos .ensures .0) (c .before .before .before .before .before .before .before .put-twos2 .ensures .0) in
+    let all = and-then head (c .before .before .put-slots .ensures) in
+    rw (le-leb _ 8 (c .before .before .before .before .before .before .before .before .before .before .before .before .before .before .if1 .left), le-leb _ _ room) (at-front all (omega (arith, room, body-wide (a .p) (a .n))))
 
 pub put-spec : {M : Type 1} → statement M
 put-spec =
@@ -60,10 +51,8 @@ put-spec =
     mul-if2
     add-if2
     returns-2
-    put-two-requires
-    put-two-requires-2
-    put-two-requires-3
-    put-two-requires-4
+    put-twos-requires
+    put-twos-requires-2
     put-slots-requires
     same-length
     returns-3)

@@ -7,7 +7,7 @@ use Rattle.laws.specs.Lists.{joined}
 use Rattle.laws.specs.Written.{Written}
 use Rattle.laws.proofs.Writes.{no-piece, next-member, length-kept}
 use Rattle.rules.specs.Plan.{emptySlot}
-use Rattle.layout.specs.Bytes.{slotBytes}
+use Rattle.encoded.specs.Bytes.{slotBytes}
 use Rattle.layout.proofs.plan.put_slots.Statement.{statement}
 use Rattle.layout.proofs.plan.put_slots.Tie as tie
 

@@ -1,4 +1,4 @@
-use Rattle.layout.specs.Numbers.{baseOf}
+use Rattle.encoded.specs.Numbers.{baseOf}
 use borrow.Author.Tests.{eq-eqb, ne-eqb}
 use Rattle.layout.proofs.yard.base_of.Statement.{statement}
 use Rattle.layout.proofs.yard.base_of.Tie as tie

@@ -1,4 +1,4 @@
-use Rattle.layout.specs.Numbers.{deviceOf}
+use Rattle.encoded.specs.Numbers.{deviceOf}
 use borrow.Author.Tests.{le-ltb, lt-ltb}
 use borrow.Author.Needs.{needs}
 use Rattle.layout.proofs.yard.device_of.Statement.{statement}

@@ -5,7 +5,7 @@ use borrow.Author.Needs.{needs}
 use Rattle.laws.specs.Lists.{tabulate, swept}
 use Rattle.laws.proofs.Lists.{swept-none, swept-next, swept-all}
 use Rattle.rules.specs.Yard.{freshDevice}
-use Rattle.layout.specs.Reading.{deviceIn, devicesIn}
+use Rattle.encoded.specs.Reading.{deviceIn, devicesIn}
 use Rattle.layout.proofs.yard.devices_in.Statement.{statement}
 use Rattle.layout.proofs.yard.devices_in.Tie as tie
 

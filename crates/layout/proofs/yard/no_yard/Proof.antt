@@ -1,5 +1,5 @@
 use mathlib.Core.Path.{refl}
-use Rattle.layout.specs.Reading.{noYard}
+use Rattle.encoded.specs.Reading.{noYard}
 use Rattle.layout.proofs.yard.no_yard.Statement.{statement}
 use Rattle.layout.proofs.yard.no_yard.Tie as tie
 

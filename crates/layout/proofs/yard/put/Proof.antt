@@ -1,9 +1,12 @@
 use native.Mathlib.Omega.{arith}
 use mathlib.Core.Path.{refl}
+use mathlib.Core.List.{[], _∷_, _++_}
 use borrow.Author.Tests.{le-leb, lt-leb}
-use Rattle.laws.proofs.Writes.{and-then, at-front}
-use Rattle.layout.specs.Bytes.{yardBytes, yardWritten}
-use Rattle.layout.proofs.Widths.{yard-wide}
+use Rattle.laws.proofs.Writes.{and-then, as-text, at-front}
+use Rattle.encoded.specs.Numbers.{baseNumber, baseDevice}
+use Rattle.encoded.specs.Bytes.{twoBytes, yardBytes, yardWritten}
+use Rattle.encoded.proofs.Widths.{yard-wide}
+use Rattle.encoded.proofs.Words.{base-bytes}
 use borrow.Author.Needs.{needs}
 use Rattle.layout.proofs.yard.put.Statement.{statement}
 use Rattle.layout.proofs.yard.put.Tie as tie
@@ -12,17 +15,11 @@ returns : tie.Need-returns
 unfolding yardWritten
 returns c = rw (lt-leb 40 _ (c .if1 .taken)) (refl, refl)
 
-base-number-requires : tie.Need-base-number-requires
-base-number-requires c κs = search needs
+base-word-requires : tie.Need-base-word-requires
+base-word-requires c κs = search needs
 
-base-device-requires : tie.Need-base-device-requires
-base-device-requires c κs = search needs
-
-put-pair-requires : tie.Need-put-pair-requires
-put-pair-requires c κs = search needs
-
-put-two-requires : tie.Need-put-two-requires
-put-two-requires c κs = search needs
+put-twos-requires : tie.Need-put-twos-requires
+put-twos-requires c κs = search needs
 
 put-four-requires : tie.Need-put-four-requires
 put-four-requires c κs = search needs
@@ -36,23 +33,21 @@ same-length c = search needs
 returns-2 : tie.Need-returns-2
 unfolding yardWritten yardBytes
 returns-2 c =
-    let a = c .before .before .before .before .before .before .before .before .before .before .before .before .before .before .before .before .before .before .before .before .before .args in
-    let room = c .before .before .before .before .before .before .before .before .before .before .before .before .before .before .before .before .before .before .before .if1 .left in
-    let base = c .before .before .before .before .before .before .before .before .before .before .before .before .before .before .put-pair .ensures .0 in
-    let clock = c .before .before .before .before .before .before .before .before .before .before .put-two .ensures .0 in
-    let lease = c .before .before .before .before .before .before .put-four .ensures .0 in
-    let all = and-then (and-then (and-then base clock) lease) (c .before .before .put-devices .ensures) in
-    rw (le-leb 40 _ room, ← (c .before .before .before .before .before .before .before .before .before .before .before .before .before .before .before .before .before .base-number .ensures), ← (c .before .before .before .before .before .before .before .before .before .before .before .before .before .before .before .before .base-device .ensures)) (at-front all (omega (arith, room, yard-wide (a .y))))
+    let y = c .before .before .before .before .before .before .before .before .before .before .before .before .before .before .before .before .args .y in
+    let room = c .before .before .before .before .before .before .before .before .before .before .before .before .before .before .if1 .left in
+    let head =
+    as-text ((baseNumber (y .base) ∷ baseDevice (y .base) ∷ []) ++ twoBytes (y .clock)) (c .before .before .before .before .before .before .before .before .before .before .put-twos .ensures .0)
+    (rw (c .before .before .before .before .before .before .before .before .before .before .before .before .base-word .ensures, base-bytes (y .base))) in
+    let all = and-then (and-then head (c .before .before .before .before .before .before .put-four .ensures .0)) (c .before .before .put-devices .ensures) in
+    rw (le-leb 40 _ room) (at-front all (omega (arith, room, yard-wide y)))
 
 pub put-spec : {M : Type 1} → statement M
 put-spec =
     tie.close
     (tie.spec
     returns
-    base-number-requires
-    base-device-requires
-    put-pair-requires
-    put-two-requires
+    base-word-requires
+    put-twos-requires
     put-four-requires
     put-devices-requires
     same-length

@@ -5,9 +5,10 @@ use lib.ListN.{length, getD}
 use borrow.Author.Needs.{needs}
 use Rattle.laws.specs.Lists.{joined}
 use Rattle.laws.specs.Written.{Written}
-use Rattle.laws.proofs.Writes.{no-piece, next-member, length-kept}
+use Rattle.laws.proofs.Writes.{no-piece, next-member, length-kept, as-text}
 use Rattle.rules.specs.Yard.{freshDevice}
-use Rattle.layout.specs.Bytes.{deviceBytes}
+use Rattle.encoded.specs.Bytes.{deviceBytes}
+use Rattle.encoded.proofs.Words.{device-word}
 use Rattle.layout.proofs.yard.put_devices.Statement.{statement}
 use Rattle.layout.proofs.yard.put_devices.Tie as tie
 
@@ -24,14 +25,17 @@ abbrev μ-loop : tie.MeasureT-loop
 loop-holds : tie.Need-loop-holds Inv-loop μ-loop
 loop-holds c = (omega arith, no-piece _ _ _, omega arith, refl)
 
-mul-put-device : tie.Need-mul-put-device Inv-loop μ-loop
-mul-put-device c = search needs
+mul-pack : tie.Need-mul-pack Inv-loop μ-loop
+mul-pack c = search needs
 
-array-copy-out-put-device : tie.Need-array-copy-out-put-device Inv-loop μ-loop
-array-copy-out-put-device c = search needs
+array-copy-out-pack : tie.Need-array-copy-out-pack Inv-loop μ-loop
+array-copy-out-pack c = search needs
 
-put-device-requires : tie.Need-put-device-requires Inv-loop μ-loop
-put-device-requires c κs = search needs
+pack-requires : tie.Need-pack-requires Inv-loop μ-loop
+pack-requires c κs = search needs
+
+put-four-requires : tie.Need-put-four-requires Inv-loop μ-loop
+put-four-requires c κs = search needs
 
 add-k : tie.Need-add-k Inv-loop μ-loop
 add-k c = search needs
@@ -41,11 +45,14 @@ loop-less c = omega arith
 
 loop-again : tie.Need-loop-again Inv-loop μ-loop
 loop-again c =
-    let inv = c .before .before .before .before .before .before .loop .inv in
-    let k = c .before .before .before .before .before .before .loop .k in
-    let one = c .before .before .put-device .ensures in (
+    let devices = c .before .before .before .before .before .before .before .before .before .args .t1 in
+    let k = c .before .before .before .before .before .before .before .loop .k in
+    let inv = c .before .before .before .before .before .before .before .loop .inv in
+    let number = c .before .before .before .before .pack in
+    let one = c .before .before .put-four .ensures in
+    let bytes = device-word (getD devices k freshDevice) (number .result) (number .ensures .0) (number .ensures .1) in (
       omega arith,
-      next-member deviceBytes (c .before .before .before .before .before .before .before .before .args .t1) freshDevice k (inv .1) (one .0),
+      next-member deviceBytes devices freshDevice k (inv .1) (as-text _ (one .0) bytes),
       omega (arith, inv .2, one .1),
       omega (arith, inv .3, length-kept (one .0)),
     )
@@ -64,9 +71,10 @@ put-devices-spec =
     Inv-loop
     μ-loop
     loop-holds
-    mul-put-device
-    array-copy-out-put-device
-    put-device-requires
+    mul-pack
+    array-copy-out-pack
+    pack-requires
+    put-four-requires
     add-k
     loop-less
     loop-again

@@ -1,5 +1,4 @@
-use Rattle.layout.specs.Reading.{yardIn, yardOf}
-use Rattle.planfile.specs.Bytes.{num16}
+use Rattle.encoded.specs.Reading.{yardIn, yardOf}
 use borrow.Author.Tests.{le-leb, lt-leb}
 use borrow.Author.Needs.{needs}
 use Rattle.layout.proofs.yard.read.Statement.{statement}
@@ -9,7 +8,7 @@ no-yard-requires : tie.Need-no-yard-requires
 no-yard-requires c κs = search needs
 
 returns : tie.Need-returns
-unfolding yardIn yardOf num16
+unfolding yardOf
 returns c = rw (c .no-yard .ensures, lt-leb 40 _ (c .before .if1 .taken))
 
 shared-slice-read-base-of : tie.Need-shared-slice-read-base-of
@@ -21,14 +20,8 @@ shared-slice-read-base-of-2 c = search needs
 base-of-requires : tie.Need-base-of-requires
 base-of-requires c κs = search needs
 
-shared-slice-read-two : tie.Need-shared-slice-read-two
-shared-slice-read-two c = search needs
-
-shared-slice-read-two-2 : tie.Need-shared-slice-read-two-2
-shared-slice-read-two-2 c = search needs
-
-two-requires : tie.Need-two-requires
-two-requires c κs = search needs
+two-in-requires : tie.Need-two-in-requires
+two-in-requires c κs = search needs
 
 lease-in-requires : tie.Need-lease-in-requires
 lease-in-requires c κs = search needs
@@ -37,8 +30,8 @@ devices-in-requires : tie.Need-devices-in-requires
 devices-in-requires c κs = search needs
 
 returns-2 : tie.Need-returns-2
-unfolding yardIn yardOf num16
-returns-2 c = rw (c .devices-in .ensures, c .before .lease-in .ensures, c .before .before .two .ensures, c .before .before .before .before .before .base-of .ensures, le-leb 40 _ (c .before .before .before .before .before .before .before .before .if1 .left))
+unfolding yardIn yardOf
+returns-2 c = rw (c .devices-in .ensures, c .before .lease-in .ensures, c .before .before .two-in .ensures, c .before .before .before .base-of .ensures, le-leb 40 _ (c .before .before .before .before .before .before .if1 .left))
 
 pub read-spec : {M : Type 1} → statement M
 read-spec =
@@ -49,9 +42,7 @@ read-spec =
     shared-slice-read-base-of
     shared-slice-read-base-of-2
     base-of-requires
-    shared-slice-read-two
-    shared-slice-read-two-2
-    two-requires
+    two-in-requires
     lease-in-requires
     devices-in-requires
     returns-2)

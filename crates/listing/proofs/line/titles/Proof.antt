@@ -5,11 +5,11 @@ use mathlib.Core.List.{_∷_}
 use lib.ListN.{length}
 use borrow.Author.Needs.{needs}
 use Rattle.laws.specs.Lists.{tabulate}
-use Rattle.listing.specs.Text.{decimal, spaced}
+use Rattle.printed.specs.Text.{decimal, spaced}
 use Rattle.laws.specs.Written.{Written}
-use Rattle.listing.proofs.Decimals.{one-digit}
+use Rattle.printed.proofs.Decimals.{one-digit}
 use Rattle.laws.proofs.Writes.{nothing, length-kept}
-use Rattle.listing.proofs.Fields.{next-title}
+use Rattle.printed.proofs.Fields.{next-title}
 use Rattle.listing.proofs.line.titles.Statement.{statement}
 use Rattle.listing.proofs.line.titles.Tie as tie
 
@@ -27,19 +27,14 @@ loop-holds : tie.Need-loop-holds Inv-loop μ-loop
 unfolding tabulate spaced
 loop-holds c = (omega arith, nothing _ _, omega arith, refl)
 
-put-requires : tie.Need-put-requires Inv-loop μ-loop
-put-requires c κs = search needs
+add-with-index : tie.Need-add-with-index Inv-loop μ-loop
+add-with-index c = search needs
 
-put-requires-2 : tie.Need-put-requires-2 Inv-loop μ-loop
-put-requires-2 c κs = omega (arith, c .before .before .before .before .before .before .loop .inv .2, c .before .before .before .before .before .before .loop .inv .3, c .before .before .before .put .ensures .stands, length-kept (c .before .before .before .put .ensures))
+cast-with-index : tie.Need-cast-with-index Inv-loop μ-loop
+cast-with-index c = search needs
 
-add-number : tie.Need-add-number Inv-loop μ-loop
-add-number c = search needs
-
-number-requires : tie.Need-number-requires Inv-loop μ-loop
-number-requires c κs =
-    let short = ap length (one-digit (c .before .before .before .before .before .before .before .before .before .before .loop .k + 1) (omega arith)) in
-    omega (arith, c .before .before .before .before .before .before .before .before .before .before .loop .inv .2, c .before .before .before .before .before .before .before .before .before .before .loop .inv .3, c .before .before .before .before .before .before .before .put .ensures .stands, length-kept (c .before .before .before .before .before .before .before .put .ensures), c .before .before .before .put2 .ensures .stands, length-kept (c .before .before .before .put2 .ensures))
+with-index-requires : tie.Need-with-index-requires Inv-loop μ-loop
+with-index-requires c κs = search needs
 
 add-k : tie.Need-add-k Inv-loop μ-loop
 add-k c = search needs
@@ -49,15 +44,14 @@ loop-less c = search needs
 
 loop-again : tie.Need-loop-again Inv-loop μ-loop
 loop-again c =
-    let inv = c .before .before .before .before .before .before .before .before .before .before .before .before .before .loop .inv in
-    let short = ap length (one-digit (c .before .before .before .before .before .before .before .before .before .before .before .before .before .loop .k + 1) (omega arith)) in
-    let s = c .before .before .before .before .before .before .before .before .before .before .put .ensures in
-    let d = c .before .before .before .before .before .before .put2 .ensures in
-    let w = c .before .before .number .ensures in (
+    let k = c .before .before .before .before .before .loop .k in
+    let inv = c .before .before .before .before .before .loop .inv in
+    let short = ap length (one-digit (k + 1) (omega arith)) in
+    let title = c .before .before .with-index .ensures .0 in (
       omega arith,
-      next-title (c .before .before .before .before .before .before .before .before .before .before .before .before .before .loop .k) (inv .1) s d w,
-      omega (arith, inv .2, s .stands, d .stands, w .stands),
-      omega (arith, inv .3, length-kept s, length-kept d, length-kept w),
+      next-title k (inv .1) title,
+      omega (arith, inv .2, title .stands),
+      omega (arith, inv .3, length-kept title),
     )
 
 same-length : tie.Need-same-length Inv-loop μ-loop
@@ -76,10 +70,9 @@ titles-spec =
     Inv-loop
     μ-loop
     loop-holds
-    put-requires
-    put-requires-2
-    add-number
-    number-requires
+    add-with-index
+    cast-with-index
+    with-index-requires
     add-k
     loop-less
     loop-again

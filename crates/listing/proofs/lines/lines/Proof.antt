@@ -5,10 +5,10 @@ use mathlib.Core.Bool.{false}
 use lib.ListN.{length}
 use borrow.Author.Needs.{needs}
 use Rattle.rules.specs.Run.{records, after}
-use Rattle.listing.specs.Listing.{linesText, full}
+use Rattle.printed.specs.Listing.{linesText, full}
 use Rattle.laws.specs.Written.{Written}
 use Rattle.laws.proofs.Writes.{nothing, length-kept}
-use Rattle.listing.proofs.Rolls.{goes-on, few, next-yard, next-line, more-room, no-room, answer-is, buffer-is}
+use Rattle.printed.proofs.Rolls.{goes-on, few, next-yard, next-line, more-room, no-room, answer-is, buffer-is}
 use Rattle.listing.proofs.lines.lines.Statement.{statement}
 use Rattle.listing.proofs.lines.lines.Tie as tie
 

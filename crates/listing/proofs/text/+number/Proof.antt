@@ -1,7 +1,7 @@
 use Prim.Native.Nat.{_≤_}
 use mathlib.Core.Path.{_≡_, sym, ap}
 use lib.ListN.{length}
-use Rattle.listing.proofs.Decimals.{one-digit, last-digit, one-more}
+use Rattle.printed.proofs.Decimals.{one-digit, last-digit, one-more}
 use Rattle.laws.proofs.Writes.{and-then, as-text, length-kept}
 use borrow.Author.Needs.{needs}
 use native.Mathlib.Omega.{arith}

@@ -1,5 +1,5 @@
 use native.Mathlib.Omega.{arith}
-use Rattle.listing.specs.Text.{downText}
+use Rattle.printed.specs.Text.{downText}
 use borrow.Author.Needs.{needs}
 use Rattle.listing.proofs.text.letter.Statement.{statement}
 use Rattle.listing.proofs.text.letter.Tie as tie
@@ -7,8 +7,8 @@ use Rattle.listing.proofs.text.letter.Tie as tie
 enum-told : tie.Need-enum-told
 enum-told c = search needs
 
-put-requires : tie.Need-put-requires
-put-requires c κs = search needs
+pair-requires : tie.Need-pair-requires
+pair-requires c κs = search needs
 
 enum-known-down : tie.Need-enum-known-down
 enum-known-down c = search needs
@@ -39,7 +39,7 @@ same-length c = search needs
 
 returns : tie.Need-returns
 unfolding downText
-returns c = (rw (c .before .before .before .before .enum-told .given .1) (c .before .before .put .ensures), omega (arith, c .before .before .put .ensures .stands))
+returns c = (rw (c .before .before .before .before .enum-told .given .1) (c .before .before .pair .ensures), omega (arith, c .before .before .pair .ensures .stands))
 
 same-length-2 : tie.Need-same-length-2
 same-length-2 c = search needs
@@ -74,7 +74,7 @@ letter-spec =
     tie.close
     (tie.spec
     enum-told
-    put-requires
+    pair-requires
     enum-known-down
     marked-requires
     enum-known-down-2

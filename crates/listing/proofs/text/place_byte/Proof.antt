@@ -1,4 +1,4 @@
-use Rattle.listing.specs.Text.{placeByte}
+use Rattle.printed.specs.Text.{placeByte}
 use borrow.Author.Needs.{needs}
 use Rattle.listing.proofs.text.place_byte.Statement.{statement}
 use Rattle.listing.proofs.text.place_byte.Tie as tie

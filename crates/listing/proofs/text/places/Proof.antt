@@ -5,10 +5,10 @@ use lib.ListN.{length}
 use borrow.Author.Needs.{needs}
 use Rattle.laws.specs.Lists.{tabulate}
 use Rattle.yard.specs.Sweep.{deviceAt}
-use Rattle.listing.specs.Text.{placeText, spaced}
+use Rattle.printed.specs.Text.{placeText, spaced}
 use Rattle.laws.specs.Written.{Written}
 use Rattle.laws.proofs.Writes.{nothing, length-kept}
-use Rattle.listing.proofs.Fields.{next-place}
+use Rattle.printed.proofs.Fields.{next-place}
 use Rattle.listing.proofs.text.places.Statement.{statement}
 use Rattle.listing.proofs.text.places.Tie as tie
 
@@ -32,14 +32,11 @@ mul-d c = search needs
 array-copy-out-d : tie.Need-array-copy-out-d Inv-loop μ-loop
 array-copy-out-d c = search needs
 
-put-requires : tie.Need-put-requires Inv-loop μ-loop
-put-requires c κs = search needs
-
 place-byte-requires : tie.Need-place-byte-requires Inv-loop μ-loop
 place-byte-requires c κs = search needs
 
-put-requires-2 : tie.Need-put-requires-2 Inv-loop μ-loop
-put-requires-2 c κs = search needs
+pair-requires : tie.Need-pair-requires Inv-loop μ-loop
+pair-requires c κs = search needs
 
 add-k : tie.Need-add-k Inv-loop μ-loop
 add-k c = search needs
@@ -49,11 +46,13 @@ loop-less c = search needs
 
 loop-again : tie.Need-loop-again Inv-loop μ-loop
 loop-again c =
-    let inv = c .before .before .before .before .before .before .before .before .before .before .before .loop .inv in (
+    let k = c .before .before .before .before .before .before .before .loop .k in
+    let inv = c .before .before .before .before .before .before .before .loop .inv in
+    let place = c .before .before .pair .ensures in (
       omega arith,
-      next-place (c .before .before .before .before .before .before .before .before .before .before .before .before .before .args .t2) (c .before .before .before .before .before .before .before .before .before .before .before .loop .k) (inv .1) (c .before .before .before .before .before .before .before .put .ensures) (c .before .before .before .before .place-byte .ensures) (c .before .before .put2 .ensures),
-      omega (arith, inv .2, c .before .before .before .before .before .before .before .put .ensures .stands, c .before .before .put2 .ensures .stands),
-      omega (arith, inv .3, length-kept (c .before .before .before .before .before .before .before .put .ensures), length-kept (c .before .before .put2 .ensures)),
+      next-place (c .before .before .before .before .before .before .before .before .before .args .t2) k (inv .1) (c .before .before .before .before .place-byte .ensures) place,
+      omega (arith, inv .2, place .stands),
+      omega (arith, inv .3, length-kept place),
     )
 
 same-length : tie.Need-same-length Inv-loop μ-loop
@@ -74,9 +73,8 @@ places-spec =
     loop-holds
     mul-d
     array-copy-out-d
-    put-requires
     place-byte-requires
-    put-requires-2
+    pair-requires
     add-k
     loop-less
     loop-again

@@ -1,5 +1,5 @@
 use native.Mathlib.Omega.{arith}
-use Rattle.listing.specs.Text.{supText}
+use Rattle.printed.specs.Text.{supText}
 use borrow.Author.Needs.{needs}
 use Rattle.listing.proofs.text.supervisor.Statement.{statement}
 use Rattle.listing.proofs.text.supervisor.Tie as tie
@@ -7,8 +7,8 @@ use Rattle.listing.proofs.text.supervisor.Tie as tie
 enum-told : tie.Need-enum-told
 enum-told c = search needs
 
-put-requires : tie.Need-put-requires
-put-requires c κs = search needs
+pair-requires : tie.Need-pair-requires
+pair-requires c κs = search needs
 
 enum-known-base : tie.Need-enum-known-base
 enum-known-base c = search needs
@@ -33,7 +33,7 @@ same-length c = search needs
 
 returns : tie.Need-returns
 unfolding supText
-returns c = (rw (c .before .before .before .before .enum-told .given .1) (c .before .before .put .ensures), omega (arith, c .before .before .put .ensures .stands))
+returns c = (rw (c .before .before .before .before .enum-told .given .1) (c .before .before .pair .ensures), omega (arith, c .before .before .pair .ensures .stands))
 
 same-length-2 : tie.Need-same-length-2
 same-length-2 c = search needs
@@ -61,7 +61,7 @@ supervisor-spec =
     tie.close
     (tie.spec
     enum-told
-    put-requires
+    pair-requires
     enum-known-base
     with-index-requires
     enum-known-base-2

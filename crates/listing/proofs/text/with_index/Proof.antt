@@ -1,19 +1,19 @@
 use native.Mathlib.Omega.{arith}
-use Rattle.listing.proofs.Decimals.{digits-few}
+use Rattle.printed.proofs.Decimals.{digits-few}
 use Rattle.laws.proofs.Writes.{and-then, length-kept}
 use borrow.Author.Needs.{needs}
 use Rattle.listing.proofs.text.with_index.Statement.{statement}
 use Rattle.listing.proofs.text.with_index.Tie as tie
 
-put-requires : tie.Need-put-requires
-put-requires c κs = search needs
+pair-requires : tie.Need-pair-requires
+pair-requires c κs = search needs
 
 wide-requires : tie.Need-wide-requires
 wide-requires c κs = search needs
 
 number-requires : tie.Need-number-requires
 number-requires c κs =
-    omega (arith, digits-few 2 (c .before .wide .result) (omega arith), c .before .before .before .before .put .ensures .stands, length-kept (c .before .before .before .before .put .ensures))
+    omega (arith, digits-few 2 (c .before .wide .result) (omega arith), c .before .before .before .before .pair .ensures .stands, length-kept (c .before .before .before .before .pair .ensures))
 
 same-length : tie.Need-same-length
 same-length c = search needs
@@ -21,9 +21,9 @@ same-length c = search needs
 returns : tie.Need-returns
 returns c =
     let few = digits-few 2 (c .before .before .before .before .wide .result) (omega arith) in
-    let w = and-then (c .before .before .before .before .before .before .before .put .ensures) (c .before .before .number .ensures) in
-    (rw (c .before .before .before .before .wide .ensures .0) at w, omega (arith, few, c .before .before .before .before .before .before .before .put .ensures .stands, c .before .before .number .ensures .stands))
+    let w = and-then (c .before .before .before .before .before .before .before .pair .ensures) (c .before .before .number .ensures) in
+    (rw (c .before .before .before .before .wide .ensures .0) at w, omega (arith, few, c .before .before .before .before .before .before .before .pair .ensures .stands, c .before .before .number .ensures .stands))
 
 pub with-index-spec : {M : Type 1} → statement M
 with-index-spec =
-    tie.close (tie.spec put-requires wide-requires number-requires same-length returns)
+    tie.close (tie.spec pair-requires wide-requires number-requires same-length returns)

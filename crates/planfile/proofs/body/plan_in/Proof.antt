@@ -1,4 +1,4 @@
-use Rattle.planfile.specs.File.{planIn}
+use Rattle.files.specs.File.{planIn}
 use borrow.Author.Needs.{needs}
 use Rattle.planfile.proofs.body.plan_in.Statement.{statement}
 use Rattle.planfile.proofs.body.plan_in.Tie as tie

@@ -1,5 +1,5 @@
 use mathlib.Core.Path.{_∙_}
-use Rattle.planfile.proofs.Files.{body-refused, body-checked}
+use Rattle.files.proofs.Files.{body-refused, body-checked}
 use borrow.Author.Needs.{needs}
 use Rattle.planfile.proofs.body.read_body.Statement.{statement}
 use Rattle.planfile.proofs.body.read_body.Tie as tie

@@ -1,4 +1,4 @@
-use Rattle.planfile.specs.File.{slotIn}
+use Rattle.files.specs.File.{slotIn}
 use borrow.Author.Needs.{needs}
 use Rattle.planfile.proofs.body.slot_at.Statement.{statement}
 use Rattle.planfile.proofs.body.slot_at.Tie as tie

@@ -2,8 +2,8 @@ use Prim.Native.Nat.{_-_, _≤_}
 use native.Mathlib.Omega.{arith}
 use mathlib.Core.Path.{_≡_}
 use borrow.Author.Needs.{needs}
-use Rattle.planfile.specs.File.{slotsIn}
-use Rattle.planfile.proofs.Slots.{none-read, next-read}
+use Rattle.files.specs.File.{slotsIn}
+use Rattle.files.proofs.Slots.{none-read, next-read}
 use Rattle.planfile.proofs.body.slots_in.Statement.{statement}
 use Rattle.planfile.proofs.body.slots_in.Tie as tie
 

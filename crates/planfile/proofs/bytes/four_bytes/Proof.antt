@@ -1,4 +1,4 @@
-use Rattle.planfile.specs.Bytes as bytes
+use Rattle.files.specs.Bytes as bytes
 use borrow.Author.Needs.{needs}
 use Rattle.planfile.proofs.bytes.four_bytes.Statement.{statement}
 use Rattle.planfile.proofs.bytes.four_bytes.Tie as tie

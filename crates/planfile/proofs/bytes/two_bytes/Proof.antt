@@ -1,4 +1,4 @@
-use Rattle.planfile.specs.Bytes.{num16}
+use Rattle.files.specs.Bytes.{num16}
 use borrow.Author.Needs.{needs}
 use Rattle.planfile.proofs.bytes.two_bytes.Statement.{statement}
 use Rattle.planfile.proofs.bytes.two_bytes.Tie as tie

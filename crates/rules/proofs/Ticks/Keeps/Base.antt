@@ -2,7 +2,7 @@
 use Prim.Native.Nat.{ℕ, _+_, _-_, _≤_, _<_}
 use native.Mathlib.Omega.{arith}
 use mathlib.Core.Path.{_≡_, refl}
-use mathlib.Core.Bool.{Bool, true, false, not, _&&_}
+use mathlib.Core.Bool.{Bool, false, not, _&&_}
 use lib.Dec.{ltb, eqb}
 use borrow.Author.Tests.{ltb-true, ltb-false, ne-eqb}
 use Rattle.laws.proofs.Tests.{tests, on-cond}
@@ -11,13 +11,11 @@ use Rattle.rules.specs.declared.Base.{Base}
 use Rattle.rules.specs.declared.Base.the-variants as base
 use Rattle.rules.specs.declared.Letter.{Letter}
 use Rattle.rules.specs.declared.Letter.the-variants as letter
-use Rattle.rules.specs.declared.Down.{Down}
-use Rattle.rules.specs.declared.Down.the-variants as down
 use Rattle.rules.specs.declared.BaseMove.{BaseMove}
 use Rattle.rules.specs.Plan.{slot, LS, terms}
 use Rattle.rules.specs.Yard.{sameLetter}
-use Rattle.rules.specs.Tick.Step1.{stopsAt, placeClock, leaseClock}
-use Rattle.rules.specs.Tick.Step3.{goes, fallsBack, stays, cancels, aborts, below, leases, inFallBack, inLease, inLeaseN, leasing, cancelling, aborting, unlessOver, baseMove}
+use Rattle.rules.specs.Tick.Step1.{placeClock, leaseClock}
+use Rattle.rules.specs.Tick.Step3.{fallsBack, cancels, aborts, below, leases, inFallBack, inLease, inLeaseN, leasing, cancelling, aborting, baseMove}
 use Rattle.rules.specs.Theorems.{Accepts}
 use Rattle.rules.proofs.States.Formed.{Leased, Based}
 use Rattle.rules.proofs.Ticks.Keeps.Devices.{stopped, ForParticipant}

@@ -1,8 +1,8 @@
 -- Steps 1, 2 and 4 keep a device well formed, under an accepted plan.
-use Prim.Native.Nat.{ℕ, _+_, _≤_, _<_}
+use Prim.Native.Nat.{ℕ, _≤_, _<_}
 use native.Mathlib.Omega.{arith}
 use mathlib.Core.Path.{_≡_, refl}
-use mathlib.Core.Bool.{Bool, true, false}
+use mathlib.Core.Bool.{Bool, false}
 use lib.Dec.{ltb, eqb}
 use borrow.Author.Tests.{eqb-true}
 use Rattle.laws.proofs.Tests.{tests, on-cond}

@@ -1,0 +1,203 @@
+-- What one call leaves, the next one reads.
+use Prim.Native.Nat.{ℕ, zero, suc, _≤_}
+use native.Mathlib.Omega.{arith}
+use mathlib.Core.Path.{_≡_, refl, sym}
+use mathlib.Core.Logic.{_⊎_, inl, inr}
+use mathlib.Core.Bool.{Bool, true, false, _&&_}
+use mathlib.Core.List.{List}
+use lib.Dec.{leb, eqb}
+use lib.ListN.{length}
+use Rattle.laws.proofs.Tests.{case, clash}
+use Rattle.laws.proofs.Lists.{tabulate-length}
+use Rattle.rules.specs.declared.Plan.{Plan}
+use Rattle.rules.specs.declared.Yard.{Yard}
+use Rattle.rules.specs.declared.Record.{Record}
+use Rattle.rules.specs.declared.Down.the-variants as down
+use Rattle.rules.specs.declared.FreshAnswer.{FreshAnswer}
+use Rattle.rules.specs.declared.TickAnswer.{TickAnswer}
+use Rattle.rules.specs.declared.RunAnswer.{RunAnswer}
+use Rattle.rules.specs.declared.Verdict.{Verdict}
+use Rattle.rules.specs.declared.Verdict.the-variants.{Accepted, Refused}
+use Rattle.rules.specs.Verdict.{numberOf, ifAccepted}
+use Rattle.rules.specs.Table.{broken, table, planVerdict}
+use Rattle.rules.specs.Yard.{freshYard, freshAnswer}
+use Rattle.rules.specs.Tick.{tick, tickVerdict, tickAnswer}
+use Rattle.rules.specs.Tick.Step1.{eachDevice}
+use Rattle.rules.specs.Tick.Step4.{step4}
+use Rattle.rules.specs.Run.{after, runAnswer}
+use Rattle.rules.proofs.Answers.{by-verdict}
+use Rattle.rules.proofs.Plans.Refused.{refused-exactly}
+use Rattle.files.specs.declared.ReadAnswer.{ReadAnswer}
+use Rattle.files.specs.File.{planIn, slotsIn, emptyPlan, wholePlan, fileVerdict, answerOf, readAnswer}
+use Rattle.files.proofs.Numbers.{refused-numbers}
+use Rattle.printed.specs.declared.Listed.{Listed}
+use Rattle.printed.specs.Listing.{ticksListed, listAnswer}
+use Rattle.encoded.specs.Bytes.{planBytes, yardBytes}
+use Rattle.encoded.specs.Reading.{devicesIn, yardIn, noYard, yardOf}
+use Rattle.encoded.proofs.Plans.{plan-back}
+use Rattle.encoded.proofs.Yards.{yard-back}
+use Rattle.calls.specs.Asked.{sizeVerdict, planSize, sizes, freshFor, tickFor, runFor, readFor, listFor}
+use Rattle.calls.specs.Calls.{Freshened, Ticked, Ran, Taken, Lined}
+use Rattle.calls.specs.Theorems.{Chained}
+
+-- Every yard that is read or reached has eight devices.
+pub eight-read : (bytes : List ℕ) → length (yardOf bytes .devices) ≡ 8
+unfolding yardOf yardIn devicesIn noYard
+eight-read bytes =
+    case (leb 40 (length bytes)) (λ e. rw e (tabulate-length _ 8)) (λ e. rw e)
+
+eight-ticked : (p : Plan) (y : Yard) (x : Record) → length (tick p y x .devices) ≡ 8
+unfolding tick step4 eachDevice
+eight-ticked p y x = tabulate-length _ 8
+
+eight-after : (p : Plan) (y : Yard) (roll : List ℕ) (k : ℕ) → length (y .devices) ≡ 8 → length (after p y roll k .devices) ≡ 8
+unfolding after
+eight-after p y roll zero e = e
+eight-after p y roll (suc k) e = eight-ticked p _ _
+
+-- The yard that stands in a buffer after a call: the answer's, or the one that was lent, where that is the answer's too.
+chain :
+    (v : Verdict) (y : Yard) (yard left : List ℕ) → length (y .devices) ≡ 8
+    → ((k i : ℕ) → v ≡ Refused k i → y ≡ yardOf yard) → left ≡ ifAccepted v (yardBytes y) yard → yardOf left ≡ y
+chain Accepted y yard left eight kept e = rw e (yard-back y eight)
+chain (Refused k i) y yard left eight kept e = rw e (sym (kept k i refl))
+
+-- A call that answers 0 was not refused for its sizes: 27 is another number.
+sized-for :
+    {A : Type 0} (verdict : A → Verdict) (fits : Bool) (taken refused : A) → verdict refused ≡ sizeVerdict fits
+    → 0 ≡ numberOf (verdict (ifAccepted (sizeVerdict fits) taken refused)) → fits ≡ true
+unfolding sizeVerdict
+sized-for verdict true taken refused e h = refl
+sized-for verdict false taken refused e h = let z : _≡_ {A = ℕ} 0 27 = rw e at h in absurd (omega arith)
+
+-- No line of the table has the number 0.
+plan-taken : (p : Plan) → 0 ≡ numberOf (planVerdict p) → planVerdict p ≡ Accepted
+unfolding broken table
+plan-taken p h =
+    by-verdict (planVerdict p) (λ taken. taken) (λ k i r.
+    let zero : 0 ≡ k = rw r at h in
+    let none : broken p 0 i ≡ true = rw (← zero) at (refused-exactly p k i .0 r .here) in
+    clash none refl)
+
+-- Nor has any refusal of a plan file.
+file-taken : (file : List ℕ) → 0 ≡ numberOf (readAnswer file .verdict) → readAnswer file .verdict ≡ Accepted
+file-taken file h =
+    by-verdict (readAnswer file .verdict) (λ taken. taken) (λ k i r. absurd (never k i (refused-numbers file k i r) (rw r at h)))
+  where
+    never : (k i : ℕ) → ((14 ≤ k) × (k ≤ 19) × (i ≡ 0)) ⊎ ((2 ≤ k) × (k ≤ 9)) → 0 ≡ k → ⊥
+    never k i (inl h) z = omega (arith, h .0)
+    never k i (inr h) z = omega (arith, h .0)
+
+eight-slots : (file : List ℕ) → length (readAnswer file .plan .slots) ≡ 8
+unfolding readAnswer answerOf planIn slotsIn emptyPlan
+eight-slots file =
+    by-verdict (fileVerdict file) (λ e. rw e (tabulate-length _ 8)) (λ k i e. rw e (tabulate-length _ 8))
+
+module _ (p : Plan) (y : Yard) (eight : length (y .devices) ≡ 8) where
+  eight-tick : (x : Record) → length (tickAnswer p y x .yard .devices) ≡ 8
+  unfolding tickAnswer
+  eight-tick x = by-verdict (tickVerdict p y x) (λ e. rw e (eight-ticked p y x)) (λ k i e. rw e eight)
+
+  eight-run : (roll : List ℕ) (budget : ℕ) (engaged : List ℕ) → length (runAnswer p y roll budget engaged .yard .devices) ≡ 8
+  unfolding runAnswer
+  eight-run roll budget engaged = eight-after p y roll _ eight
+
+  eight-list : (roll : List ℕ) (first room : ℕ) → length (listAnswer p y roll first room .yard .devices) ≡ 8
+  unfolding listAnswer
+  eight-list roll first room = eight-after p y roll _ eight
+
+-- A refusal answers the yard that it was given.
+module _ (p : Plan) (y : Yard) where
+  tick-kept : (x : Record) (k i : ℕ) → tickAnswer p y x .verdict ≡ Refused k i → tickAnswer p y x .yard ≡ y
+  unfolding tickAnswer
+  tick-kept x k i e = rw e
+
+  run-kept :
+      (roll : List ℕ) (budget : ℕ) (engaged : List ℕ) (k i : ℕ) → runAnswer p y roll budget engaged .verdict ≡ Refused k i
+      → runAnswer p y roll budget engaged .yard ≡ y
+  unfolding runAnswer after
+  run-kept roll budget engaged k i e = rw e
+
+  list-kept :
+      (roll : List ℕ) (first room k i : ℕ) → listAnswer p y roll first room .verdict ≡ Refused k i
+      → listAnswer p y roll first room .yard ≡ y
+  unfolding listAnswer ticksListed after
+  list-kept roll first room k i e = rw e
+
+eight-fresh : length (freshYard .devices) ≡ 8
+unfolding freshYard
+eight-fresh = refl
+
+module _ (plan yard : List ℕ) where
+  fresh-chained : (left : List ℕ) (i : ℕ) → Freshened plan yard left 0 i → yardOf left ≡ freshYard
+  unfolding freshFor freshAnswer sizeVerdict
+  fresh-chained left i a =
+      let fits : (planSize plan && eqb (length yard) 40) ≡ true =
+      sized-for (λ (r : FreshAnswer). r .verdict) (planSize plan && eqb (length yard) 40) (freshAnswer (wholePlan plan))
+      (record { verdict = sizeVerdict (planSize plan && eqb (length yard) 40); yard = freshYard }) refl (a .answer .no) in
+      let taken : planVerdict (wholePlan plan) ≡ Accepted = plan-taken (wholePlan plan) (rw fits at (a .answer .no)) in
+      let same : left ≡ yardBytes freshYard = rw (fits, taken) at (a .bytes) in
+      rw same (yard-back freshYard eight-fresh)
+
+  tick-chained :
+      (x : Record) (left : List ℕ) (letter device i : ℕ) → Ticked plan yard x left 0 letter device i
+      → yardOf left ≡ tickAnswer (wholePlan plan) (yardOf yard) x .yard
+  unfolding tickFor sizeVerdict
+  tick-chained x left letter device i a =
+      let answer : TickAnswer = tickAnswer (wholePlan plan) (yardOf yard) x in
+      let fits : sizes plan yard ≡ true =
+      sized-for (λ (r : TickAnswer). r .verdict) (sizes plan yard) answer
+      (record { verdict = sizeVerdict (sizes plan yard); yard = yardOf yard; down = down.None }) refl (a .answer .no) in
+      chain (answer .verdict) (answer .yard) yard left
+      (eight-tick (wholePlan plan) (yardOf yard) (eight-read yard) x)
+      (tick-kept (wholePlan plan) (yardOf yard) x)
+      (rw fits at (a .bytes))
+
+  run-chained :
+      (roll : List ℕ) (budget : ℕ) (engaged left shown : List ℕ) (ticks i : ℕ)
+      → Ran plan yard roll budget engaged left shown 0 ticks i
+      → yardOf left ≡ runAnswer (wholePlan plan) (yardOf yard) roll budget engaged .yard
+  unfolding runFor sizeVerdict
+  run-chained roll budget engaged left shown ticks i a =
+      let answer : RunAnswer = runAnswer (wholePlan plan) (yardOf yard) roll budget engaged in
+      let fits : sizes plan yard ≡ true =
+      sized-for (λ (r : RunAnswer). r .verdict) (sizes plan yard) answer
+      (record { verdict = sizeVerdict (sizes plan yard); yard = yardOf yard; ticks = 0 }) refl (a .answer .no) in
+      chain (answer .verdict) (answer .yard) yard left
+      (eight-run (wholePlan plan) (yardOf yard) (eight-read yard) roll budget engaged)
+      (run-kept (wholePlan plan) (yardOf yard) roll budget engaged)
+      (rw fits at (a .bytes))
+
+  list-chained :
+      (roll : List ℕ) (first : ℕ) (out left text : List ℕ) (ticks n i : ℕ)
+      → Lined plan yard roll first out left text 0 ticks n i
+      → yardOf left ≡ listAnswer (wholePlan plan) (yardOf yard) roll first (length out) .yard
+  unfolding listFor sizeVerdict
+  list-chained roll first out left text ticks n i a =
+      let answer : Listed = listAnswer (wholePlan plan) (yardOf yard) roll first (length out) in
+      let fits : sizes plan yard ≡ true =
+      sized-for (λ (r : Listed). r .verdict) (sizes plan yard) answer
+      (record { verdict = sizeVerdict (sizes plan yard); yard = yardOf yard; ticks = 0; length = 0 }) refl (a .answer .no) in
+      chain (answer .verdict) (answer .yard) yard left
+      (eight-list (wholePlan plan) (yardOf yard) (eight-read yard) roll first (length out))
+      (list-kept (wholePlan plan) (yardOf yard) roll first (length out))
+      (rw fits at (a .bytes))
+
+read-chained : (file plan left : List ℕ) (i : ℕ) → Taken file plan left 0 i → wholePlan left ≡ readAnswer file .plan
+unfolding readFor sizeVerdict
+read-chained file plan left i a =
+    let fits : eqb (length plan) 104 ≡ true =
+    sized-for (λ (r : ReadAnswer). r .verdict) (eqb (length plan) 104) (readAnswer file)
+    (record { verdict = sizeVerdict (eqb (length plan) 104); plan = readAnswer file .plan }) refl (a .answer .no) in
+    let taken : readAnswer file .verdict ≡ Accepted = file-taken file (rw fits at (a .answer .no)) in
+    let same : left ≡ planBytes (readAnswer file .plan) = rw (fits, taken) at (a .bytes) in
+    rw same (plan-back (readAnswer file .plan) (eight-slots file) .1)
+
+pub chained : Chained
+chained = record {
+  fresh = fresh-chained;
+  tick = tick-chained;
+  run = run-chained;
+  read = read-chained;
+  list = list-chained;
+}

@@ -1,0 +1,87 @@
+-- Document 01's calls, asked of plans and yards that are lent as bytes: the answers before they cross.
+use Prim.Native.Nat.{ℕ}
+use mathlib.Core.Path.{_≡_}
+use mathlib.Core.Bool.{Bool, not, _&&_}
+use mathlib.Core.List.{List}
+use lib.Dec.{eqb}
+use lib.ListN.{length}
+use Rattle.rules.specs.declared.Verdict.{Verdict}
+use Rattle.rules.specs.declared.Verdict.the-variants.{Accepted}
+use Rattle.rules.specs.declared.Down.the-variants as down
+use Rattle.rules.specs.declared.Record.{Record}
+use Rattle.rules.specs.declared.FreshAnswer.{FreshAnswer}
+use Rattle.rules.specs.declared.TickAnswer.{TickAnswer}
+use Rattle.rules.specs.declared.RunAnswer.{RunAnswer}
+use Rattle.rules.specs.Verdict.{ifAccepted, refusedIf, firstOf}
+use Rattle.rules.specs.Table.{planVerdict}
+use Rattle.rules.specs.Yard.{freshYard, freshAnswer}
+use Rattle.rules.specs.Tick.{tickAnswer}
+use Rattle.rules.specs.Run.{runAnswer, runBuffer}
+use Rattle.rules.specs.Promises.{Kept, shown}
+use Rattle.files.specs.declared.ReadAnswer.{ReadAnswer}
+use Rattle.files.specs.File.{wholePlan, readAnswer}
+use Rattle.printed.specs.declared.Listed.{Listed}
+use Rattle.printed.specs.Listing.{listAnswer, listBuffer}
+use Rattle.encoded.specs.Reading.{yardOf}
+
+-- 27 at 0: a plan of other than 104 bytes was lent, or a yard of other than 40. It is tried before all others.
+unfoldable pub sizeVerdict : Bool → Verdict
+sizeVerdict fits = refusedIf (not fits) 27 0
+
+abbrev pub planSize : List ℕ → Bool
+planSize plan = eqb (length plan) 104
+
+abbrev pub sizes : List ℕ → List ℕ → Bool
+sizes plan yard = planSize plan && eqb (length yard) 40
+
+unfoldable pub checkFor : List ℕ → Verdict
+checkFor plan = firstOf (sizeVerdict (planSize plan)) (planVerdict (wholePlan plan))
+
+-- `room` is the length of the yard that was lent.
+unfoldable pub freshFor : List ℕ → ℕ → FreshAnswer
+freshFor plan room =
+    let size = sizeVerdict (planSize plan && eqb room 40) in
+    ifAccepted size (freshAnswer (wholePlan plan)) (record { verdict = size; yard = freshYard })
+
+unfoldable pub tickFor : List ℕ → List ℕ → Record → TickAnswer
+tickFor plan yard r =
+    let size = sizeVerdict (sizes plan yard) in
+    ifAccepted size
+    (tickAnswer (wholePlan plan) (yardOf yard) r)
+    (record { verdict = size; yard = yardOf yard; down = down.None })
+
+unfoldable pub runFor : List ℕ → List ℕ → List ℕ → ℕ → List ℕ → RunAnswer
+runFor plan yard roll budget engaged =
+    let size = sizeVerdict (sizes plan yard) in
+    ifAccepted size
+    (runAnswer (wholePlan plan) (yardOf yard) roll budget engaged)
+    (record { verdict = size; yard = yardOf yard; ticks = 0 })
+
+-- The engaged bytes afterwards.
+unfoldable pub engagedFor : List ℕ → List ℕ → List ℕ → ℕ → List ℕ → List ℕ
+engagedFor plan yard roll budget engaged =
+    ifAccepted (sizeVerdict (sizes plan yard)) (runBuffer (wholePlan plan) (yardOf yard) roll budget engaged) engaged
+
+-- From a fresh yard under an accepted plan the engaged bytes keep promises 1 to 3 for the ticks done.
+abbrev pub KeptBy : List ℕ → List ℕ → List ℕ → ℕ → Type 0
+KeptBy plan yard engaged ticks =
+    planVerdict (wholePlan plan) ≡ Accepted → yardOf yard ≡ freshYard → Kept (wholePlan plan) (shown engaged) ticks
+
+-- `room` is the length of the plan that was lent.
+unfoldable pub readFor : List ℕ → ℕ → ReadAnswer
+readFor file room =
+    let size = sizeVerdict (eqb room 104) in
+    ifAccepted size (readAnswer file) (record { verdict = size; plan = readAnswer file .plan })
+
+-- `room` is the length of the buffer for the text.
+unfoldable pub listFor : List ℕ → List ℕ → List ℕ → ℕ → ℕ → Listed
+listFor plan yard roll first room =
+    let size = sizeVerdict (sizes plan yard) in
+    ifAccepted size
+    (listAnswer (wholePlan plan) (yardOf yard) roll first room)
+    (record { verdict = size; yard = yardOf yard; ticks = 0; length = 0 })
+
+-- The buffer for the text afterwards.
+unfoldable pub textFor : List ℕ → List ℕ → List ℕ → ℕ → List ℕ → List ℕ
+textFor plan yard roll first out =
+    ifAccepted (sizeVerdict (sizes plan yard)) (listBuffer (wholePlan plan) (yardOf yard) roll first out) out

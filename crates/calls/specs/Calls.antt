@@ -1,0 +1,94 @@
+-- What a caller sees of each call: the number that it answers, the numbers behind its references, and every lent buffer
+-- afterwards. A call that refuses changes no byte of a lent buffer.
+use Prim.Native.Nat.{ℕ}
+use mathlib.Core.Path.{_≡_}
+use mathlib.Core.List.{List}
+use lib.ListN.{length}
+use Rattle.rules.specs.declared.Verdict.{Verdict}
+use Rattle.rules.specs.declared.Down.{Down}
+use Rattle.rules.specs.declared.Down.the-variants as down
+use Rattle.rules.specs.declared.Record.{Record}
+use Rattle.rules.specs.Verdict.{numberOf, indexOf, ifAccepted}
+use Rattle.rules.specs.Yard.{freshYard}
+use Rattle.finder.specs.declared.Piece.{Piece}
+use Rattle.finder.specs.declared.Piece.the-variants.{InFile, InRoll}
+use Rattle.finder.specs.Piece.{piece}
+use Rattle.encoded.specs.Bytes.{planBytes, yardBytes}
+use Rattle.calls.specs.Asked.{KeptBy, checkFor, freshFor, tickFor, runFor, engagedFor, readFor, listFor, textFor}
+
+-- A down letter as numbers: 0 none, 1 LeaseReq, 2 Grant, 3 Cancel, 4 Abort.
+abbrev pub downNumber : Down → ℕ
+downNumber down.None = 0
+downNumber (down.LeaseReq i) = 1
+downNumber (down.Grant i) = 2
+downNumber (down.Cancel i) = 3
+downNumber (down.Abort i) = 4
+
+-- The device that it is for; 0 for none.
+abbrev pub downDevice : Down → ℕ
+downDevice down.None = 0
+downDevice (down.LeaseReq i) = i
+downDevice (down.Grant i) = i
+downDevice (down.Cancel i) = i
+downDevice (down.Abort i) = i
+
+-- A verdict crosses as its number and its index.
+pub record Answered (v : Verdict) (number index : ℕ) : Type 0 where
+  pub no : number ≡ numberOf v
+  pub at : index ≡ indexOf v
+
+-- The plan check.
+abbrev pub Checked : List ℕ → ℕ → ℕ → Type 0
+Checked plan number index = Answered (checkFor plan) number index
+
+-- A fresh yard.
+pub record Freshened (plan yard after : List ℕ) (number index : ℕ) : Type 0 where
+  pub answer : Answered (freshFor plan (length yard) .verdict) number index
+  pub bytes : after ≡ ifAccepted (freshFor plan (length yard) .verdict) (yardBytes freshYard) yard
+
+-- One tick.
+pub record Ticked (plan yard : List ℕ) (r : Record) (after : List ℕ) (number down device index : ℕ) : Type 0 where
+  pub answer : Answered (tickFor plan yard r .verdict) number index
+  pub letter : down ≡ downNumber (tickFor plan yard r .down)
+  pub to : device ≡ downDevice (tickFor plan yard r .down)
+  pub bytes : after ≡ ifAccepted (tickFor plan yard r .verdict) (yardBytes (tickFor plan yard r .yard)) yard
+
+-- A run.
+pub record Ran (plan yard roll : List ℕ) (budget : ℕ) (engaged after shownAfter : List ℕ) (number ticks index : ℕ) : Type 0 where
+  pub answer : Answered (runFor plan yard roll budget engaged .verdict) number index
+  pub done : ticks ≡ runFor plan yard roll budget engaged .ticks
+  pub bytes : after ≡ ifAccepted (runFor plan yard roll budget engaged .verdict) (yardBytes (runFor plan yard roll budget engaged .yard)) yard
+  pub buffer : shownAfter ≡ engagedFor plan yard roll budget engaged
+  -- from a fresh yard under an accepted plan the engaged bytes keep the promises
+  pub promises : KeptBy plan yard shownAfter ticks
+
+-- A plan file, read.
+pub record Taken (file plan after : List ℕ) (number index : ℕ) : Type 0 where
+  pub answer : Answered (readFor file (length plan) .verdict) number index
+  pub bytes : after ≡ ifAccepted (readFor file (length plan) .verdict) (planBytes (readFor file (length plan) .plan)) plan
+
+-- The refused piece: of the file for 0, of the roll for 1.
+abbrev pub whichOf : Piece → ℕ
+whichOf (InFile s n) = 0
+whichOf (InRoll s n) = 1
+
+abbrev pub startOf : Piece → ℕ
+startOf (InFile s n) = s
+startOf (InRoll s n) = s
+
+abbrev pub lengthOf : Piece → ℕ
+lengthOf (InFile s n) = n
+lengthOf (InRoll s n) = n
+
+pub record Found (file roll : List ℕ) (which start n : ℕ) : Type 0 where
+  pub slice : which ≡ whichOf (piece file roll)
+  pub from : start ≡ startOf (piece file roll)
+  pub long : n ≡ lengthOf (piece file roll)
+
+-- A listing's lines.
+pub record Lined (plan yard roll : List ℕ) (first : ℕ) (out after text : List ℕ) (number ticks n index : ℕ) : Type 0 where
+  pub answer : Answered (listFor plan yard roll first (length out) .verdict) number index
+  pub done : ticks ≡ listFor plan yard roll first (length out) .ticks
+  pub long : n ≡ listFor plan yard roll first (length out) .length
+  pub bytes : after ≡ ifAccepted (listFor plan yard roll first (length out) .verdict) (yardBytes (listFor plan yard roll first (length out) .yard)) yard
+  pub buffer : text ≡ textFor plan yard roll first out

@@ -1,0 +1,30 @@
+-- The slots of a body: where each stands, and how they are read one after the other, at a general slot.
+use Prim.Native.Nat.{ℕ, _+_, _-_, _*_, _<_}
+use native.Mathlib.Omega.{arith}
+use mathlib.Core.Path.{_≡_, sym, _∙_, ap}
+use mathlib.Core.List.{List}
+use lib.ListN.{set}
+use borrow.Author.Tests.{le-leb, lt-leb}
+use Rattle.laws.proofs.Lists.{tabulate-at, swept-none, swept-next}
+use Rattle.rules.specs.declared.Slot.{Slot}
+use Rattle.rules.specs.Plan.{slot, emptySlot}
+use Rattle.files.specs.File.{slotIn, slotsIn, planIn, emptyPlan}
+use Rattle.files.specs.Theorems.{SlotsRead}
+
+pub slots-read : SlotsRead
+unfolding slot planIn slotsIn
+slots-read n body i low high =
+    let here = tabulate-at _ 8 i emptySlot low high in
+    (λ h. here ∙ rw (le-leb i n h), λ h. here ∙ rw (lt-leb i n h))
+
+module _ (body : List ℕ) where
+  pub none-read : emptyPlan .slots ≡ slotsIn 0 body
+  unfolding emptyPlan slotsIn
+  none-read = sym (swept-none (λ i. slotIn body (8 + 12 * (i - 1))) (λ i. emptySlot) 8)
+
+  pub next-read :
+      (k : ℕ) (s : Slot) → k < 8 → s ≡ slotIn body (8 + 12 * k) → set (slotsIn k body) k s ≡ slotsIn (k + 1) body
+  unfolding slotsIn
+  next-read k s h e =
+      swept-next (λ i. slotIn body (8 + 12 * (i - 1))) (λ i. emptySlot) 8 k s emptySlot h
+      (e ∙ ap (λ (j : ℕ). slotIn body (8 + 12 * j)) {x = k} {y = k + 1 - 1} (omega arith))

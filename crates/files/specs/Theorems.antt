@@ -1,0 +1,67 @@
+-- What keeps the definitions honest: statements for a reader to hold against document 01, each proved in proofs/ under the
+-- name that stands beside it.
+use Prim.Native.Nat.{ℕ, _+_, _-_, _*_, _≤_, _<_}
+use mathlib.Core.Path.{_≡_}
+use mathlib.Core.Logic.{_↔_, _⊎_}
+use mathlib.Core.List.{List}
+use lib.ListN.{length}
+use Rattle.rules.specs.declared.Verdict.the-variants.{Accepted, Refused}
+use Rattle.rules.specs.Plan.{slot, emptySlot}
+use Rattle.rules.specs.Table.{planVerdict}
+use Rattle.files.specs.declared.Trailer.{Trailer}
+use Rattle.files.specs.declared.ReadAnswer.{ReadAnswer}
+use Rattle.files.specs.Worked.{bare, noted, readsP}
+use Rattle.files.specs.File.{lastTen, theMark, bodyOf, slotIn, planIn, emptyPlan, trailerVerdict, readAnswer}
+
+-- What is asked of a trailer in a file of len bytes, in the order of the refusals.
+pub record TrailerHolds (len : ℕ) (t : Trailer) : Type 0 where
+  -- 14: 42 to 65,536 bytes
+  pub bytes : (42 ≤ len) × (len ≤ 65536)
+  -- 15: the last two bytes
+  pub mark : t .mark ≡ theMark
+  -- 16: version 1
+  pub version : t .version ≡ 1
+  -- 17: the body length is 8 + 12 × n for n in 2..8
+  pub devices : (n : ℕ) × (2 ≤ n) × (n ≤ 8) × (t .size ≡ 8 + 12 * n)
+  -- 18: the body lies within the file, before the trailer
+  pub body : (t .size + 10 ≤ t .back) × (t .back ≤ len)
+
+-- A trailer is taken exactly when it meets that (`trailer-exactly`).
+abbrev pub TrailerExactly : Type 0
+TrailerExactly = (len : ℕ) (t : Trailer) → (trailerVerdict len t ≡ Accepted) ↔ TrailerHolds len t
+
+-- Device i's times stand in the body after those of the devices before it; slots above n are all zero (`slots-read`).
+abbrev pub SlotsRead : Type 0
+SlotsRead =
+    (n : ℕ) (body : List ℕ) (i : ℕ) → 1 ≤ i → i ≤ 8
+    → (i ≤ n → slot (planIn n body) i ≡ slotIn body (8 + 12 * (i - 1))) × (n < i → slot (planIn n body) i ≡ emptySlot)
+
+-- A plan that is read is one that the plan check accepts, and its slots above N are all zero (`read-accepts`).
+abbrev pub ReadAccepts : Type 0
+ReadAccepts =
+    (file : List ℕ) → readAnswer file .verdict ≡ Accepted
+    → (planVerdict (readAnswer file .plan) ≡ Accepted)
+    × ((i : ℕ) → readAnswer file .plan .N < i → i ≤ 8 → slot (readAnswer file .plan) i ≡ emptySlot)
+
+-- A file is refused with 14 to 19, index 0, or as the plan check refuses, with 2 to 9: 1 never comes (`refused-numbers`).
+abbrev pub RefusedNumbers : Type 0
+RefusedNumbers =
+    (file : List ℕ) (k i : ℕ) → readAnswer file .verdict ≡ Refused k i
+    → ((14 ≤ k) × (k ≤ 19) × (i ≡ 0)) ⊎ ((2 ≤ k) × (k ≤ 9))
+
+-- A refused file gives an all-zero plan (`refused-empty`).
+abbrev pub RefusedEmpty : Type 0
+RefusedEmpty = (file : List ℕ) (k i : ℕ) → readAnswer file .verdict ≡ Refused k i → readAnswer file .plan ≡ emptyPlan
+
+-- Notes are free: two files of one length, with the same last ten bytes and the same body, are answered alike (`notes-free`).
+abbrev pub NotesFree : Type 0
+NotesFree =
+    (f g : List ℕ) → length f ≡ length g → lastTen f ≡ lastTen g → bodyOf f ≡ bodyOf g → readAnswer f ≡ readAnswer g
+
+-- Plan P is read from a file without notes, and from one with notes before and after the body (`worked-files`).
+abbrev pub WorkedFiles : Type 0
+WorkedFiles = (readAnswer bare ≡ readsP) × (readAnswer noted ≡ readsP)
+
+-- Any two results that the reader's contract allows are equal (`one-answer`).
+abbrev pub OneAnswer : Type 0
+OneAnswer = (file : List ℕ) (r s : ReadAnswer) → r ≡ readAnswer file → s ≡ readAnswer file → r ≡ s

@@ -1,0 +1,26 @@
+-- Plan P of document 01, "Worked yards", as a file.
+use Prim.Native.Nat.{ℕ}
+use mathlib.Core.List.{List, [], _∷_, _++_}
+use Rattle.rules.specs.declared.Verdict.the-variants.{Accepted}
+use Rattle.rules.specs.Worked.{P}
+use Rattle.files.specs.declared.ReadAnswer.{ReadAnswer}
+
+-- N, W, B, Q, then F, E, R, X, G, S of devices 1 and 2.
+unfoldable pub bodyP : List ℕ
+bodyP =
+    0x02 ∷ 0x00 ∷ 0x01 ∷ 0x00 ∷ 0x01 ∷ 0x00 ∷ 0x03 ∷ 0x00
+    ∷ 0x01 ∷ 0x00 ∷ 0x01 ∷ 0x00 ∷ 0x07 ∷ 0x00 ∷ 0x02 ∷ 0x00 ∷ 0x01 ∷ 0x00 ∷ 0x01 ∷ 0x00
+    ∷ 0x01 ∷ 0x00 ∷ 0x03 ∷ 0x00 ∷ 0x02 ∷ 0x00 ∷ 0x01 ∷ 0x00 ∷ 0x00 ∷ 0x00 ∷ 0x00 ∷ 0x00 ∷ []
+
+-- The shortest file that can be read: 42 bytes, the body right at its start.
+unfoldable pub bare : List ℕ
+bare = bodyP ++ 0x20 ∷ 0x00 ∷ 0x01 ∷ 0x00 ∷ 0x2a ∷ 0x00 ∷ 0x00 ∷ 0x00 ∷ 0x59 ∷ 0x50 ∷ []
+
+-- Three bytes of notes before the body and two after it.
+unfoldable pub noted : List ℕ
+noted =
+    0x6e ∷ 0x6f ∷ 0x74 ∷ bodyP
+    ++ 0x65 ∷ 0x73 ∷ 0x20 ∷ 0x00 ∷ 0x01 ∷ 0x00 ∷ 0x2c ∷ 0x00 ∷ 0x00 ∷ 0x00 ∷ 0x59 ∷ 0x50 ∷ []
+
+abbrev pub readsP : ReadAnswer
+readsP = record { verdict = Accepted; plan = P }

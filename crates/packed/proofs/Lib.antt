@@ -1,0 +1,4 @@
+pub mod Back
+pub mod Rows
+pub mod Words
+pub mod Determined

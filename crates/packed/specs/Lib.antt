@@ -1,0 +1,4 @@
+pub mod Numbers
+pub mod Packed
+pub mod Times
+pub mod Theorems

@@ -1,0 +1,17 @@
+use mathlib.Core.Path.{sym}
+use native.Mathlib.Nat.{add-zero}
+use borrow.Author.Needs.{needs}
+use Rattle.yard.proofs.bits.with_bit.Statement.{statement}
+use Rattle.yard.proofs.bits.with_bit.Tie as tie
+
+add-result : tie.Need-add-result
+add-result c = search needs
+
+returns : tie.Need-returns
+returns c = rw (c .if1 .taken)
+
+returns-2 : tie.Need-returns-2
+returns-2 c = rw (c .if1 .left) (sym (add-zero _))
+
+pub with-bit-spec : {M : Type 1} → statement M
+with-bit-spec = tie.close (tie.spec add-result returns returns-2)
