@@ -3,3 +3,4 @@ pub mod Lengths
 pub mod Determined
 pub mod Refused
 pub mod Chained
+pub mod Told

@@ -1,16 +1,22 @@
 -- What a caller may rest on, each statement proved in proofs/ under the name that stands beside it.
 use Prim.Native.Nat.{ℕ, _<_}
 use mathlib.Core.Path.{_≡_}
+use mathlib.Core.Bool.{cond}
 use mathlib.Core.List.{List}
+use lib.Dec.{eqb}
 use lib.ListN.{length}
+use Rattle.rules.specs.declared.Down.{Down}
+use Rattle.rules.specs.declared.Down.the-variants as down
 use Rattle.rules.specs.declared.Record.{Record}
 use Rattle.rules.specs.Yard.{freshYard}
 use Rattle.rules.specs.Tick.{tickAnswer}
 use Rattle.rules.specs.Run.{runAnswer}
+use Rattle.finder.specs.declared.Piece.{Piece}
+use Rattle.finder.specs.declared.Piece.the-variants.{InFile, InRoll}
 use Rattle.files.specs.File.{wholePlan, readAnswer}
 use Rattle.printed.specs.Listing.{listAnswer}
 use Rattle.encoded.specs.Reading.{yardOf}
-use Rattle.calls.specs.Calls.{Checked, Freshened, Ticked, Ran, Taken, Found, Lined}
+use Rattle.calls.specs.Calls.{downNumber, downDevice, Checked, Freshened, Ticked, Ran, Taken, whichOf, startOf, lengthOf, Found, Lined}
 
 -- Any two results that a contract allows are equal.
 abbrev pub Determined : {A : Type 0} → (A → Type 0) → Type 0
@@ -68,3 +74,19 @@ pub record Chained : Type 0 where
       (plan yard roll : List ℕ) (first : ℕ) (out after text : List ℕ) (ticks n i : ℕ)
       → Lined plan yard roll first out after text 0 ticks n i
       → yardOf after ≡ listAnswer (wholePlan plan) (yardOf yard) roll first (length out) .yard
+
+-- What the numbers of a letter and of a piece stand for, for a caller who reads them.
+unfoldable pub letterTold : ℕ → ℕ → Down
+letterTold number i =
+    cond (eqb number 1) (down.LeaseReq i)
+    (cond (eqb number 2) (down.Grant i)
+    (cond (eqb number 3) (down.Cancel i)
+    (cond (eqb number 4) (down.Abort i) down.None)))
+
+unfoldable pub pieceTold : ℕ → ℕ → ℕ → Piece
+pieceTold which s n = cond (eqb which 0) (InFile s n) (InRoll s n)
+
+-- Nothing is lost in them: each letter and each piece is had back (`told-apart`).
+pub record ToldApart : Type 0 where
+  pub letter : (l : Down) → letterTold (downNumber l) (downDevice l) ≡ l
+  pub piece : (x : Piece) → pieceTold (whichOf x) (startOf x) (lengthOf x) ≡ x
