@@ -4,10 +4,11 @@ use Rattle.rules.specs.declared.Down.{Down}
 use Rattle.rules.specs.declared.Down.the-variants as down
 use Rattle.finder.specs.declared.Piece.{Piece}
 use Rattle.finder.specs.declared.Piece.the-variants.{InFile, InRoll}
-use Rattle.calls.specs.Calls.{downNumber, downDevice, whichOf, startOf, lengthOf}
+use Rattle.packed.specs.Numbers.{downIndex}
+use Rattle.calls.specs.Calls.{downNumber, whichOf, startOf, lengthOf}
 use Rattle.calls.specs.Theorems.{letterTold, pieceTold, ToldApart}
 
-letter-told : (l : Down) → letterTold (downNumber l) (downDevice l) ≡ l
+letter-told : (l : Down) → letterTold (downNumber l) (downIndex l) ≡ l
 unfolding letterTold
 letter-told down.None = refl
 letter-told (down.LeaseReq i) = refl

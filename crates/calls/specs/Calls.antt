@@ -13,24 +13,17 @@ use Rattle.rules.specs.Yard.{freshYard}
 use Rattle.finder.specs.declared.Piece.{Piece}
 use Rattle.finder.specs.declared.Piece.the-variants.{InFile, InRoll}
 use Rattle.finder.specs.Piece.{piece}
+use Rattle.packed.specs.Numbers.{downIndex}
 use Rattle.encoded.specs.Bytes.{planBytes, yardBytes}
 use Rattle.calls.specs.Asked.{KeptBy, checkFor, freshFor, tickFor, runFor, engagedFor, readFor, listFor, textFor}
 
--- A down letter as numbers: 0 none, 1 LeaseReq, 2 Grant, 3 Cancel, 4 Abort.
+-- A down letter as a number: 0 none, 1 LeaseReq, 2 Grant, 3 Cancel, 4 Abort. Beside it goes the device that it is for.
 abbrev pub downNumber : Down → ℕ
 downNumber down.None = 0
 downNumber (down.LeaseReq i) = 1
 downNumber (down.Grant i) = 2
 downNumber (down.Cancel i) = 3
 downNumber (down.Abort i) = 4
-
--- The device that it is for; 0 for none.
-abbrev pub downDevice : Down → ℕ
-downDevice down.None = 0
-downDevice (down.LeaseReq i) = i
-downDevice (down.Grant i) = i
-downDevice (down.Cancel i) = i
-downDevice (down.Abort i) = i
 
 -- A verdict crosses as its number and its index.
 pub record Answered (v : Verdict) (number index : ℕ) : Type 0 where
@@ -50,7 +43,7 @@ pub record Freshened (plan yard after : List ℕ) (number index : ℕ) : Type 0 
 pub record Ticked (plan yard : List ℕ) (r : Record) (after : List ℕ) (number down device index : ℕ) : Type 0 where
   pub answer : Answered (tickFor plan yard r .verdict) number index
   pub letter : down ≡ downNumber (tickFor plan yard r .down)
-  pub to : device ≡ downDevice (tickFor plan yard r .down)
+  pub to : device ≡ downIndex (tickFor plan yard r .down)
   pub bytes : after ≡ ifAccepted (tickFor plan yard r .verdict) (yardBytes (tickFor plan yard r .yard)) yard
 
 -- A run.

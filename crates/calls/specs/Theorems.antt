@@ -15,8 +15,9 @@ use Rattle.finder.specs.declared.Piece.{Piece}
 use Rattle.finder.specs.declared.Piece.the-variants.{InFile, InRoll}
 use Rattle.files.specs.File.{wholePlan, readAnswer}
 use Rattle.printed.specs.Listing.{listAnswer}
+use Rattle.packed.specs.Numbers.{downIndex}
 use Rattle.encoded.specs.Reading.{yardOf}
-use Rattle.calls.specs.Calls.{downNumber, downDevice, Checked, Freshened, Ticked, Ran, Taken, whichOf, startOf, lengthOf, Found, Lined}
+use Rattle.calls.specs.Calls.{downNumber, Checked, Freshened, Ticked, Ran, Taken, whichOf, startOf, lengthOf, Found, Lined}
 
 -- Any two results that a contract allows are equal.
 abbrev pub Determined : {A : Type 0} → (A → Type 0) → Type 0
@@ -88,5 +89,5 @@ pieceTold which s n = cond (eqb which 0) (InFile s n) (InRoll s n)
 
 -- Nothing is lost in them: each letter and each piece is had back (`told-apart`).
 pub record ToldApart : Type 0 where
-  pub letter : (l : Down) → letterTold (downNumber l) (downDevice l) ≡ l
+  pub letter : (l : Down) → letterTold (downNumber l) (downIndex l) ≡ l
   pub piece : (x : Piece) → pieceTold (whichOf x) (startOf x) (lengthOf x) ≡ x

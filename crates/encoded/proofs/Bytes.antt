@@ -14,7 +14,8 @@ use Rattle.rules.specs.Yard.{freshDevice, letterNumber}
 use Rattle.packed.specs.Numbers.{letterOf}
 use Rattle.packed.proofs.Back.{place-again}
 use Rattle.files.specs.Bytes.{num16, num32}
-use Rattle.encoded.specs.Numbers.{baseNumber, baseDevice, baseOf, deviceOf}
+use Rattle.rules.specs.Tick.Step3.{baseIndex}
+use Rattle.encoded.specs.Numbers.{baseNumber, baseOf, deviceOf}
 use Rattle.encoded.specs.Bytes.{twoBytes, fourBytes, deviceBytes, yardBytes}
 use Rattle.encoded.specs.Reading.{deviceIn, devicesIn, yardIn, yardOf}
 use Rattle.encoded.specs.Theorems.{Malformed, noBase, fallBackWith, noPlace, noLetter, deviceAt, BytesBack}
@@ -22,7 +23,7 @@ use Rattle.encoded.proofs.Widths.{yard-wide}
 use Rattle.encoded.proofs.Yards.{device-byte}
 
 base-again :
-    (a b : ℕ) → (3 < a → ⊥) → (a ≡ 0 → 0 < b → ⊥) → (baseNumber (baseOf a b) ≡ a) × (baseDevice (baseOf a b) ≡ b)
+    (a b : ℕ) → (3 < a → ⊥) → (a ≡ 0 → 0 < b → ⊥) → (baseNumber (baseOf a b) ≡ a) × (baseIndex (baseOf a b) ≡ b)
 unfolding baseOf
 base-again zero zero high alone = (refl, refl)
 base-again zero (suc b) high alone = absurd (alone refl (omega arith))
@@ -67,7 +68,7 @@ module _ (bytes : List ℕ) (small : (k : ℕ) → getD bytes k 0 < 256) where
   module _ (formed : Malformed bytes → ⊥) where
     base-given :
         (baseNumber (baseOf (getD bytes 0 0) (getD bytes 1 0)) ≡ getD bytes 0 0)
-        × (baseDevice (baseOf (getD bytes 0 0) (getD bytes 1 0)) ≡ getD bytes 1 0)
+        × (baseIndex (baseOf (getD bytes 0 0) (getD bytes 1 0)) ≡ getD bytes 1 0)
     base-given = base-again _ _ (λ h. formed (noBase h)) (λ z h. formed (fallBackWith z h))
 
     front-given : (k : ℕ) → k < 8 → getD (yardBytes (yardIn bytes)) k 0 ≡ getD bytes k 0

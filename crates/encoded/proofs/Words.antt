@@ -10,7 +10,8 @@ use Rattle.rules.specs.declared.Device.{Device}
 use Rattle.rules.specs.Yard.{placeNumber, letterNumber}
 use Rattle.packed.specs.Packed.{packed, unpacked}
 use Rattle.packed.proofs.Back.{place-below}
-use Rattle.encoded.specs.Numbers.{baseNumber, baseDevice}
+use Rattle.rules.specs.Tick.Step3.{baseIndex}
+use Rattle.encoded.specs.Numbers.{baseNumber}
 use Rattle.encoded.specs.Bytes.{twoBytes, fourBytes, deviceBytes}
 
 pair-bytes : (a b : ℕ) → a < 256 → twoBytes (a + 256 * b) ≡ a ∷ b ∷ []
@@ -23,8 +24,8 @@ base-below (base.Lease i) = omega arith
 base-below (base.Cancel i) = omega arith
 base-below (base.Abort i) = omega arith
 
-pub base-bytes : (b : Base) → twoBytes (baseNumber b + 256 * baseDevice b) ≡ baseNumber b ∷ baseDevice b ∷ []
-base-bytes b = pair-bytes (baseNumber b) (baseDevice b) (base-below b)
+pub base-bytes : (b : Base) → twoBytes (baseNumber b + 256 * baseIndex b) ≡ baseNumber b ∷ baseIndex b ∷ []
+base-bytes b = pair-bytes (baseNumber b) (baseIndex b) (base-below b)
 
 pub device-word : (d : Device) (w : ℕ) → w ≡ packed d → unpacked w ≡ d → fourBytes w ≡ deviceBytes d
 unfolding packed unpacked fourBytes deviceBytes

@@ -18,14 +18,15 @@ use Rattle.rules.specs.declared.Yard.{Yard}
 use Rattle.rules.specs.Yard.{freshDevice, placeNumber}
 use Rattle.packed.proofs.Back.{place-back, letter-back}
 use Rattle.files.specs.Bytes.{num16, num32}
-use Rattle.encoded.specs.Numbers.{baseNumber, baseDevice, baseOf, deviceOf}
+use Rattle.rules.specs.Tick.Step3.{baseIndex}
+use Rattle.encoded.specs.Numbers.{baseNumber, baseOf, deviceOf}
 use Rattle.encoded.specs.Bytes.{twoBytes, fourBytes, deviceBytes, devicesBytes, yardBytes}
 use Rattle.encoded.specs.Reading.{deviceIn, devicesIn, yardIn, yardOf}
 use Rattle.encoded.specs.Theorems.{YardBack}
 use Rattle.encoded.proofs.Widths.{device-wide, yard-wide}
 use Rattle.encoded.proofs.Pieces.{byte-stands, first-stands, two-back}
 
-base-back : (b : Base) → baseOf (baseNumber b) (baseDevice b) ≡ b
+base-back : (b : Base) → baseOf (baseNumber b) (baseIndex b) ≡ b
 unfolding baseOf
 base-back base.FallBack = refl
 base-back (base.Lease i) = refl
@@ -53,7 +54,7 @@ module _ (y : Yard) where
   device-of i = getD (y .devices) (i - 1) freshDevice
 
   front : List ℕ
-  front = (baseNumber (y .base) ∷ baseDevice (y .base) ∷ []) ++ twoBytes (y .clock) ++ fourBytes (y .lease)
+  front = (baseNumber (y .base) ∷ baseIndex (y .base) ∷ []) ++ twoBytes (y .clock) ++ fourBytes (y .lease)
 
   front-long : length front ≡ 8
   unfolding front twoBytes fourBytes

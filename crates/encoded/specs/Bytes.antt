@@ -11,7 +11,8 @@ use Rattle.rules.specs.declared.Device.{Device}
 use Rattle.rules.specs.declared.Yard.{Yard}
 use Rattle.rules.specs.Plan.{emptySlot}
 use Rattle.rules.specs.Yard.{freshDevice, placeNumber, letterNumber}
-use Rattle.encoded.specs.Numbers.{baseNumber, baseDevice}
+use Rattle.rules.specs.Tick.Step3.{baseIndex}
+use Rattle.encoded.specs.Numbers.{baseNumber}
 
 unfoldable pub twoBytes : ℕ → List ℕ
 twoBytes v = v % 256 ∷ v / 256 ∷ []
@@ -50,7 +51,7 @@ devicesBytes ds n = joined (λ i. deviceBytes (getD ds (i - 1) freshDevice)) n
 -- A yard, 40 bytes: where the base stands, its device, the place clock (2), the lease clock (4), then the eight devices.
 unfoldable pub yardBytes : Yard → List ℕ
 yardBytes y =
-    (baseNumber (y .base) ∷ baseDevice (y .base) ∷ [])
+    (baseNumber (y .base) ∷ baseIndex (y .base) ∷ [])
     ++ twoBytes (y .clock)
     ++ fourBytes (y .lease)
     ++ devicesBytes (y .devices) 8

@@ -18,13 +18,6 @@ baseNumber (base.Lease i) = 1
 baseNumber (base.Cancel i) = 2
 baseNumber (base.Abort i) = 3
 
--- The device i of Lease i, Cancel i, Abort i; 0 in Fall-Back.
-abbrev pub baseDevice : Base → ℕ
-baseDevice base.FallBack = 0
-baseDevice (base.Lease i) = i
-baseDevice (base.Cancel i) = i
-baseDevice (base.Abort i) = i
-
 -- What the two bytes of a base stand for. Any others are malformed, and read as a base that no plan takes: there is no
 -- device 0.
 unfoldable pub baseOf : ℕ → ℕ → Base

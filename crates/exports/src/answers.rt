@@ -10,7 +10,7 @@ ghost use Rattle.rules.specs.declared.Verdict.the-variants.{Accepted};
 ghost use Rattle.rules.specs.Verdict.{numberOf, indexOf, ifAccepted};
 ghost use Rattle.encoded.specs.Bytes.{planBytes, yardBytes};
 ghost use Rattle.calls.specs.Asked.{sizeVerdict};
-ghost use Rattle.calls.specs.Calls.{Answered, downNumber, downDevice, whichOf, startOf, lengthOf};
+ghost use Rattle.calls.specs.Calls.{Answered, downNumber, whichOf, startOf, lengthOf};
 
 // A plan or a yard was lent at another length than its own.
 pub(crate) fn size_verdict(fits: bool) -> Verdict
@@ -60,18 +60,6 @@ pub(crate) fn down_number(l: Down) -> u8
         Down::Grant(_) => 2,
         Down::Cancel(_) => 3,
         Down::Abort(_) => 4,
-    }
-}
-
-pub(crate) fn down_device(l: Down) -> u8
-    ensures { λ r. ⌜ r ≡ downDevice l ⌝ }
-{
-    match l {
-        Down::None => 0,
-        Down::LeaseReq(i) => i,
-        Down::Grant(i) => i,
-        Down::Cancel(i) => i,
-        Down::Abort(i) => i,
     }
 }
 

@@ -6,7 +6,6 @@ mod answers;
 mod asked;
 
 use answers::answer;
-use answers::down_device;
 use answers::down_number;
 use answers::keep_plan;
 use answers::keep_yard;
@@ -19,6 +18,7 @@ use asked::list_for;
 use asked::read_for;
 use asked::run_for;
 use asked::tick_for;
+use packed::down_index;
 use rules::Record;
 ghost use mathlib.Core.Path.{_≡_};
 ghost use Prim.Native.Nat.{_+_};
@@ -70,7 +70,7 @@ pub extern "C" fn wilatkhun_tick(
     let letter = a.down;
     keep_yard(verdict, y, yard);
     *down = down_number(letter);
-    *device = down_device(letter);
+    *device = down_index(letter);
     answer(verdict, index)
 }
 

@@ -17,13 +17,14 @@ ghost use Prim.Native.Nat.{_+_, _*_, _≤_, _<_};
 ghost use lib.ListN.{length, drop};
 ghost use Rattle.laws.specs.Written.{Written};
 ghost use Rattle.files.specs.Bytes.{num16, num32};
-ghost use Rattle.encoded.specs.Numbers.{baseNumber, baseDevice, baseOf, deviceOf};
+ghost use Rattle.encoded.specs.Numbers.{baseNumber, baseOf, deviceOf};
+ghost use Rattle.rules.specs.Tick.Step3.{baseIndex};
 ghost use Rattle.encoded.specs.Bytes.{devicesBytes, yardWritten};
 ghost use Rattle.encoded.specs.Reading.{deviceIn, devicesIn, noYard, yardOf};
 
 // Where the base stands and its device, as one number.
 fn base_word(base: Base) -> u16
-    ensures { λ r. ⌜ r ≡ baseNumber base + 256 * baseDevice base ⌝ }
+    ensures { λ r. ⌜ r ≡ baseNumber base + 256 * baseIndex base ⌝ }
 {
     match base {
         Base::FallBack => 0,

@@ -8,6 +8,7 @@ calls-determined = record {
   letter-number = λ a r s. determined;
   place-of = λ number r s. determined;
   letter-of = λ number r s. determined;
+  down-index = λ l r s. determined;
   pack = λ d r s a b. determined (a .0) (b .0);
   unpack = λ w r s. determined;
   is-engaged = λ w r s. determined;

@@ -1,4 +1,4 @@
--- The places and letters that numbers stand for. Places and letters have the numbers of the rules' `placeNumber` and
+-- The places and letters that numbers stand for, and the device of a down letter. Places and letters have the numbers of the rules' `placeNumber` and
 -- `letterNumber`; other numbers stand for Fall-Back and Request.
 use Prim.Native.Nat.{ℕ}
 use mathlib.Core.Bool.{cond}
@@ -7,6 +7,8 @@ use Rattle.rules.specs.declared.Place.{Place}
 use Rattle.rules.specs.declared.Place.the-variants as place
 use Rattle.rules.specs.declared.Letter.{Letter}
 use Rattle.rules.specs.declared.Letter.the-variants as letter
+use Rattle.rules.specs.declared.Down.{Down}
+use Rattle.rules.specs.declared.Down.the-variants as down
 
 unfoldable pub placeOf : ℕ → Place
 placeOf number =
@@ -23,3 +25,11 @@ letterOf number =
     (cond (eqb number 3) letter.Approve
     (cond (eqb number 4) letter.Deny
     (cond (eqb number 5) letter.Exit letter.Request))))
+
+-- The device that a down letter is for; 0 for none.
+abbrev pub downIndex : Down → ℕ
+downIndex down.None = 0
+downIndex (down.LeaseReq i) = i
+downIndex (down.Grant i) = i
+downIndex (down.Cancel i) = i
+downIndex (down.Abort i) = i

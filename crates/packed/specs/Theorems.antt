@@ -5,9 +5,10 @@ use mathlib.Core.List.{List}
 use Rattle.rules.specs.declared.Place.{Place}
 use Rattle.rules.specs.declared.Letter.{Letter}
 use Rattle.rules.specs.declared.Device.{Device}
+use Rattle.rules.specs.declared.Down.{Down}
 use Rattle.rules.specs.declared.Slot.{Slot}
 use Rattle.rules.specs.Yard.{placeNumber, letterNumber, engaged}
-use Rattle.packed.specs.Numbers.{placeOf, letterOf}
+use Rattle.packed.specs.Numbers.{placeOf, letterOf, downIndex}
 use Rattle.packed.specs.Packed.{packed, unpacked, packedAll, unpackedAll}
 use Rattle.packed.specs.Times.{timesOf, slotsIn}
 
@@ -25,6 +26,7 @@ pub record CallsDetermined : Type 0 where
   pub letter-number : (a : Letter) → Determined (λ r. r ≡ letterNumber a)
   pub place-of : (number : ℕ) → Determined (λ r. r ≡ placeOf number)
   pub letter-of : (number : ℕ) → Determined (λ r. r ≡ letterOf number)
+  pub down-index : (l : Down) → Determined (λ r. r ≡ downIndex l)
   pub pack : (d : Device) → Determined (λ r. (r ≡ packed d) × (unpacked r ≡ d))
   pub unpack : (w : ℕ) → Determined (λ r. r ≡ unpacked w)
   pub is-engaged : (w : ℕ) → Determined (λ r. r ≡ engaged (unpacked w .place))

@@ -3,12 +3,13 @@
 pub mod times;
 
 use rules::Device;
+use rules::Down;
 use rules::Letter;
 use rules::Place;
 ghost use mathlib.Core.Path.{_≡_};
 ghost use Prim.Native.Nat.{_<_};
 ghost use Rattle.rules.specs.Yard.{placeNumber, letterNumber, engaged};
-ghost use Rattle.packed.specs.Numbers.{placeOf, letterOf};
+ghost use Rattle.packed.specs.Numbers.{placeOf, letterOf, downIndex};
 ghost use Rattle.packed.specs.Packed.{packed, unpacked, packedAll, unpackedAll};
 
 pub fn place_number(place: Place) -> u8
@@ -77,6 +78,19 @@ pub fn letter_of(number: u8) -> Letter
         return Letter::Exit;
     }
     Letter::Request
+}
+
+// The device that a down letter is for; 0 for none.
+pub fn down_index(l: Down) -> u8
+    ensures { λ r. ⌜ r ≡ downIndex l ⌝ }
+{
+    match l {
+        Down::None => 0,
+        Down::LeaseReq(i) => i,
+        Down::Grant(i) => i,
+        Down::Cancel(i) => i,
+        Down::Abort(i) => i,
+    }
 }
 
 // A number's byte among four.

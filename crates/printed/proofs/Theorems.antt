@@ -13,6 +13,7 @@ use lib.Seq.{getD-append-add}
 use borrow.Author.Tests.{eqb-true}
 use Rattle.laws.specs.Lists.{tabulate}
 use Rattle.laws.proofs.Tests.{case, tests}
+use Rattle.packed.specs.Numbers.{downIndex}
 use Rattle.rules.specs.declared.Yard.{Yard}
 use Rattle.rules.specs.declared.Base.{Base}
 use Rattle.rules.specs.declared.Base.the-variants as base
@@ -27,7 +28,7 @@ use Rattle.rules.proofs.Runs.Engaged.{byte-at}
 use Rattle.rules.proofs.Runs.Splits.{record-later, after-splits}
 use Rattle.printed.specs.Text.{decimal, supText, placeByte, placeText, mark, downText, spaced, lineText}
 use Rattle.printed.specs.Listing.{tickLine, linesText}
-use Rattle.printed.specs.Theorems.{LineFits, downIndex, placeAt, EngagedShown, ListingSplits, NoLetterNoMark}
+use Rattle.printed.specs.Theorems.{LineFits, placeAt, EngagedShown, ListingSplits, NoLetterNoMark}
 use Rattle.printed.proofs.Decimals.{digits-few}
 use Rattle.printed.proofs.Fields.{in-order, next-field}
 

@@ -7,6 +7,7 @@ use mathlib.Core.Bool.{Bool, true, false}
 use mathlib.Core.List.{List, _++_}
 use lib.ListN.{length, getD, drop}
 use Rattle.laws.specs.Bits.{bit}
+use Rattle.packed.specs.Numbers.{downIndex}
 use Rattle.rules.specs.declared.Plan.{Plan}
 use Rattle.rules.specs.declared.Yard.{Yard}
 use Rattle.rules.specs.declared.Down.{Down}
@@ -20,13 +21,6 @@ use Rattle.printed.specs.Printed.{listed, printed}
 -- The three listings come out as document 01 prints them (`as-printed`).
 abbrev pub AsPrinted : Type 0
 AsPrinted = listed ≡ printed
-
-abbrev pub downIndex : Down → ℕ
-downIndex down.None = 0
-downIndex (down.LeaseReq i) = i
-downIndex (down.Grant i) = i
-downIndex (down.Cancel i) = i
-downIndex (down.Abort i) = i
 
 -- Where no letter was sent, a loss leaves no mark: the line is the same (`no-letter-no-mark`).
 abbrev pub NoLetterNoMark : Type 0

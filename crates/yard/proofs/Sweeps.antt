@@ -11,6 +11,7 @@ use lib.ListN.{length, getD, set, length-set}
 use Rattle.laws.specs.Bits.{bit}
 use Rattle.laws.proofs.Tests.{case}
 use Rattle.laws.proofs.Lists.{tabulate-at, tabulate-same, tabulate-back, swept-length, swept-none, swept-rest, swept-next}
+use Rattle.packed.specs.Numbers.{downIndex}
 use Rattle.rules.specs.declared.Slot.{Slot}
 use Rattle.rules.specs.declared.Device.{Device}
 use Rattle.rules.specs.declared.Down.{Down}
@@ -19,7 +20,7 @@ use Rattle.rules.specs.Plan.{emptySlot}
 use Rattle.rules.specs.Yard.{freshDevice}
 use Rattle.rules.specs.Tick.Step2.{moved}
 use Rattle.rules.specs.Tick.Step4.{arrived}
-use Rattle.yard.specs.Sweep.{slotAt, deviceAt, sweep, clockedBy, risenBy, deliveredBy, downIndex}
+use Rattle.yard.specs.Sweep.{slotAt, deviceAt, sweep, clockedBy, risenBy, deliveredBy}
 
 -- Device k + 1 stands at place k.
 back : (k : ℕ) → k + 1 - 1 ≡ k

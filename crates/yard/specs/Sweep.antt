@@ -10,7 +10,6 @@ use Rattle.laws.specs.Bits.{bit, ofBits}
 use Rattle.rules.specs.declared.Slot.{Slot}
 use Rattle.rules.specs.declared.Device.{Device}
 use Rattle.rules.specs.declared.Down.{Down}
-use Rattle.rules.specs.declared.Down.the-variants as down
 use Rattle.rules.specs.declared.Letter.{Letter}
 use Rattle.rules.specs.declared.Letter.the-variants as letter
 use Rattle.rules.specs.Plan.{emptySlot}
@@ -44,14 +43,6 @@ gone d = at (d .place) (d .clock) letter.None
 -- Step 4 of device i.
 abbrev pub deliveredBy : List Slot → Bool → ℕ → Down → ℕ → Device → Device
 deliveredBy slots lost willing l i d = cond lost d (arrived (slotAt slots i) (bit willing (i - 1)) l i d)
-
--- The device that a down letter is for; 0 for none.
-abbrev pub downIndex : Down → ℕ
-downIndex down.None = 0
-downIndex (down.LeaseReq i) = i
-downIndex (down.Grant i) = i
-downIndex (down.Cancel i) = i
-downIndex (down.Abort i) = i
 
 -- What is heard from device i.
 abbrev pub heardFrom : ℕ → List Device → ℕ → Letter

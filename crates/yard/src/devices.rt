@@ -4,6 +4,7 @@ use crate::bits::with_bit;
 use crate::moves::goes;
 use crate::moves::leads;
 use crate::moves::slot_at;
+use packed::down_index;
 use packed::is_engaged;
 use packed::pack;
 use packed::unpack;
@@ -16,7 +17,7 @@ ghost use lib.ListN.{length, getD};
 ghost use Rattle.packed.specs.Packed.{unpacked, unpackedAll};
 ghost use Rattle.packed.specs.Times.{slotsIn};
 ghost use Rattle.yard.specs.Times.{Timed};
-ghost use Rattle.yard.specs.Sweep.{sweep, risenBy, deliveredBy, downIndex};
+ghost use Rattle.yard.specs.Sweep.{sweep, risenBy, deliveredBy};
 ghost use Rattle.yard.specs.Risen.{Rises};
 
 // The letter looked for: this device's where the pass has come to it, else the one found so far.
@@ -73,19 +74,6 @@ pub(crate) fn rise(
         last: from_last,
         own: own_letter,
         engaged: with_bit(byte, power, is_engaged(m.word)) as u8,
-    }
-}
-
-// The device that a down letter is for; 0 for none.
-fn down_index(l: Down) -> u8
-    ensures { λ r. ⌜ r ≡ downIndex l ⌝ }
-{
-    match l {
-        Down::None => 0,
-        Down::LeaseReq(i) => i,
-        Down::Grant(i) => i,
-        Down::Cancel(i) => i,
-        Down::Abort(i) => i,
     }
 }
 

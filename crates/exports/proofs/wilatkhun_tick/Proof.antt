@@ -15,8 +15,8 @@ keep-yard-requires c κs h =
 down-number-requires : tie.Need-down-number-requires
 down-number-requires c κs = search needs
 
-down-device-requires : tie.Need-down-device-requires
-down-device-requires c κs = search needs
+down-index-requires : tie.Need-down-index-requires
+down-index-requires c κs = search needs
 
 answer-requires : tie.Need-answer-requires
 answer-requires c κs = search needs
@@ -30,7 +30,7 @@ returns c =
     record {
       answer = rw told at (c .answer .ensures);
       letter = rw told at (c .before .before .before .down-number .ensures);
-      to = rw told at (c .before .before .down-device .ensures);
+      to = rw told at (c .before .before .down-index .ensures);
       bytes = rw told at (c .before .before .before .before .before .before .keep-yard .ensures);
     }
 
@@ -41,7 +41,7 @@ wilatkhun-tick-spec =
     tick-for-requires
     keep-yard-requires
     down-number-requires
-    down-device-requires
+    down-index-requires
     answer-requires
     same-length
     returns)

@@ -3,7 +3,8 @@ use mathlib.Core.Path.{refl}
 use mathlib.Core.List.{[], _∷_, _++_}
 use borrow.Author.Tests.{le-leb, lt-leb}
 use Rattle.laws.proofs.Writes.{and-then, as-text, at-front}
-use Rattle.encoded.specs.Numbers.{baseNumber, baseDevice}
+use Rattle.rules.specs.Tick.Step3.{baseIndex}
+use Rattle.encoded.specs.Numbers.{baseNumber}
 use Rattle.encoded.specs.Bytes.{twoBytes, yardBytes, yardWritten}
 use Rattle.encoded.proofs.Widths.{yard-wide}
 use Rattle.encoded.proofs.Words.{base-bytes}
@@ -36,7 +37,7 @@ returns-2 c =
     let y = c .before .before .before .before .before .before .before .before .before .before .before .before .before .before .before .before .args .y in
     let room = c .before .before .before .before .before .before .before .before .before .before .before .before .before .before .if1 .left in
     let head =
-    as-text ((baseNumber (y .base) ∷ baseDevice (y .base) ∷ []) ++ twoBytes (y .clock)) (c .before .before .before .before .before .before .before .before .before .before .put-twos .ensures .0)
+    as-text ((baseNumber (y .base) ∷ baseIndex (y .base) ∷ []) ++ twoBytes (y .clock)) (c .before .before .before .before .before .before .before .before .before .before .put-twos .ensures .0)
     (rw (c .before .before .before .before .before .before .before .before .before .before .before .before .base-word .ensures, base-bytes (y .base))) in
     let all = and-then (and-then head (c .before .before .before .before .before .before .put-four .ensures .0)) (c .before .before .put-devices .ensures) in
     rw (le-leb 40 _ room) (at-front all (omega (arith, room, yard-wide y)))
