@@ -1,5 +1,6 @@
 /* Steps plan P of document 01 through the ten records of its first roll, tick by tick, and prints each line with code
- * of its own; the library's own listing of the same roll must read the same. Then a plan that is refused.
+ * of its own; the library's own listing of the same roll must read the same. Then the plan goes into a plan file and
+ * comes back, and one that is refused does not.
  *
  *     cc -Wall -Wextra -Werror -o step_plan_p examples/step_plan_p.c -Iinclude target/staticlib/libexports.a
  */
@@ -96,6 +97,19 @@ static int same(const char *ours, size_t our_length, const char *theirs, size_t 
     return our_length == their_length;
 }
 
+/* Writes the plan as a plan file and reads it back. Answers the file's length, or 0 when it is refused or another plan
+ * comes back. */
+static size_t write_and_read(const uint8_t *plan)
+{
+    uint8_t file[WILATKHUN_FILE], back[WILATKHUN_PLAN];
+    size_t index, length;
+    if (wilatkhun_write(plan, WILATKHUN_PLAN, file, sizeof file, &length, &index) != 0)
+        return 0;
+    if (wilatkhun_read(file, length, back, sizeof back, &index) != 0)
+        return 0;
+    return memcmp(back, plan, sizeof back) == 0 ? length : 0;
+}
+
 int main(void)
 {
     uint8_t plan[WILATKHUN_PLAN], roll[4 * TICKS];
@@ -109,9 +123,14 @@ int main(void)
     if (our_length == 0 || !same(ours, our_length, theirs, their_length))
         return 1;
 
+    size_t file_length = write_and_read(plan);
+    printf("as a plan file: %zu bytes\n", file_length);
+    if (file_length == 0)
+        return 1;
+
     /* With R1 = 6 device 1 could exit before device 2 has left. */
     plan[R1] = 6;
     uint8_t number = wilatkhun_check(plan, sizeof plan, &index);
     printf("with R1 = 6: refused %d %zu\n", number, index);
-    return number == 8 && index == 1 ? 0 : 1;
+    return number == 8 && index == 1 && write_and_read(plan) == 0 ? 0 : 1;
 }

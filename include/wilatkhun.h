@@ -2,7 +2,7 @@
  *
  * Every call takes any bytes. Every number that a call answers behind a pointer (`index`, `ticks`, `length`, `start`, `down`,
  * `device`) is always written. A call that refuses changes no byte of a lent buffer: not the yard, not the engaged bytes,
- * not the plan, not the text.
+ * not the plan, not the file, not the text.
  *
  * What a caller owes: no pointer is NULL (not even for a length of 0), each points to as many bytes as its length says, and
  * what a call may write overlaps nothing else that it is handed. Each call is proved for every caller that keeps to this;
@@ -16,6 +16,7 @@
  *   12        the roll's length is not a multiple of 4
  *   13        fewer engaged bytes were lent than ticks are to be done
  *   14 to 19  the plan file
+ *   20        fewer bytes were lent for a plan file than the plan's takes
  *   27        a plan of other than 104 bytes was lent, or a yard of other than 40; tried before all others
  *
  * Numbers of more than one byte are little-endian.
@@ -46,6 +47,8 @@ extern "C" {
 
 #define WILATKHUN_PLAN 104
 #define WILATKHUN_YARD 40
+/* The most bytes that wilatkhun_write writes: 18 + 12 x 8. */
+#define WILATKHUN_FILE 114
 
 /* The verdict on a plan: 0 at 0, 1 to 9, or 27 at 0. */
 uint8_t wilatkhun_check(const uint8_t *plan, size_t plan_len, size_t *index);
@@ -68,6 +71,13 @@ uint8_t wilatkhun_run(const uint8_t *plan, size_t plan_len, uint8_t *yard, size_
 
 /* Reads a plan file into a plan's 104 bytes. Refused with 27, 14 to 19, then 2 to 9. */
 uint8_t wilatkhun_read(const uint8_t *file, size_t file_len, uint8_t *plan, size_t plan_len, size_t *index);
+
+/* Writes a plan as a plan file without notes into the file's front, the body first and the trailer straight after it:
+ * `length` bytes, 18 + 12 x N; later bytes keep their value. wilatkhun_read of these bytes gives the plan back, and the plan
+ * of a file without notes is written as that very file.
+ * Refused with 27, 1 to 9, then 20 with fewer bytes than that; the length is then 0. */
+uint8_t wilatkhun_write(const uint8_t *plan, size_t plan_len, uint8_t *file, size_t file_len, size_t *length,
+                        size_t *index);
 
 /* Of a plan file and a roll, the refused piece of whichever is at fault: `length` bytes from `start`, of the file for an
  * answer of 0 and of the roll for 1. For 14 to 19 the file's last 10 bytes (all, if shorter), for 2 to 9 its body, for 12

@@ -1,12 +1,19 @@
 #!/usr/bin/env python3
-"""Writes test cases for the plan file reader, the plan check and the finder.
+"""Writes test cases for the plan file reader, the plan check, the finder and
+the plan file writer.
 
-Written from document 01, apart from the Rust model.  The stream on standard
-output holds one case after the other, all numbers little-endian:
+Written from document 01 and request 01 of document 02, apart from the Rust
+model.  The stream on standard output holds one case after the other, each
+with its kind in front, all numbers little-endian:
 
+    u8 0, for the reader, the check and the finder,
     u32 file length, file, u32 roll length, roll,
     u8 verdict number, u32 verdict index,
     u8 which (0 file, 1 roll), u32 start, u32 length
+
+    u8 1, for the writer,
+    104 bytes of a plan with eight slots, u32 length of the buffer lent,
+    u8 verdict number, u32 verdict index, u32 length, the bytes written
 
 `vectors.py --count` prints how often each number occurs instead.
 """
@@ -22,10 +29,13 @@ MOST = 36000
 def refusal_of_plan(n, yard, devices):
     """(number, index) for the body's numbers, or (0, 0).
 
-    yard is (W, B, Q); devices is a list of n tuples (F, E, R, X, G, S).
-    From a file N is 2..8 already and no slot above N exists, so number 1
-    cannot come and number 3 only for device N.
+    yard is (W, B, Q); devices is a list of tuples (F, E, R, X, G, S): all
+    eight slots, or the n of a file, where n is 2..8 already and no slot above
+    it exists, so number 1 cannot come and number 3 only for device N.
     """
+    # 1.
+    if not 2 <= n <= 8:
+        return 1, 0
     wait, base_rest, request = yard
     dev = dict(enumerate(devices, start=1))
 
@@ -42,9 +52,12 @@ def refusal_of_plan(n, yard, devices):
         times = dev[i] if i < n else dev[i][:4]
         if min(times) < 1 or max(times) > MOST:
             return 2, i
-    # 3: G and S of device N.
+    # 3: G and S of device N, then the slots above it.
     if dev[n][4:] != (0, 0):
         return 3, n
+    for i in range(n + 1, len(dev) + 1):
+        if any(dev[i]):
+            return 3, i
     # 4, c2.
     if span <= n * wait:
         return 4, 0
@@ -133,6 +146,25 @@ def answer(data, roll):
     if verdict[0] == 10:
         return verdict + (1, 4 * (verdict[1] - 1), 4)
     return verdict + (1, len(roll), 0)
+
+
+# --- Document 02, request 01: the writer -----------------------------------
+
+
+def write_file(plan, room):
+    """((number, index), the bytes written) for 52 numbers, into `room` bytes."""
+    n = plan[0]
+    slots = [tuple(plan[4 + 6 * k:10 + 6 * k]) for k in range(8)]
+    verdict = refusal_of_plan(n, plan[1:4], slots)
+    if verdict[0] != 0:
+        return verdict, b""
+    if room < 18 + 12 * n:
+        return (20, 0), b""
+    body = struct.pack("<%dH" % (4 + 6 * n), *plan[:4 + 6 * n])
+    # The body first and the trailer straight after it: it lies as far back
+    # as the file is long.
+    trailer = struct.pack("<HHI2s", 8 + 12 * n, 1, 18 + 12 * n, b"\x59\x50")
+    return (0, 0), body + trailer
 
 
 # --- Random numbers: our own, so that every Python gives the same bytes -----
@@ -410,6 +442,48 @@ def some_roll(dice, n):
     return roll
 
 
+# --- Making plans to be written --------------------------------------------
+
+
+def eight_slots(plan):
+    """The list with zeros for the slots above N."""
+    return plan + [0] * (52 - len(plan))
+
+
+def some_room(dice, n):
+    """Within a byte of what the file takes, or anywhere around it."""
+    whole = 18 + 12 * n
+    return dice.pick([whole - 1, whole, whole + 1, dice.upto(whole),
+                      whole + dice.upto(40)])
+
+
+def good_write(dice):
+    return eight_slots(good_plan(dice))
+
+
+def wrong_write(dice):
+    plan = good_plan(dice)
+    kinds = [off_by_condition] * 5 + [off_by_number] * 2 + [off_by_last_pair, any_numbers]
+    dice.pick(kinds)(dice, plan)
+    return eight_slots(plan)
+
+
+def slot_above(dice):
+    """A number in a slot above N, or any N over the same slots."""
+    plan = eight_slots(good_plan(dice, dice.between(2, 7)))
+    if dice.one_in(2):
+        plan[0] = dice.between(2, 8)
+    else:
+        plan[dice.between(4 + 6 * plan[0], 51)] = dice.pick([1, 256, MOST, 65535])
+    return plan
+
+
+def wrong_count(dice):
+    plan = good_write(dice)
+    plan[0] = dice.pick([0, 1, 9, 256, plan[0] + 256, 65535])
+    return plan
+
+
 # --- The cases -------------------------------------------------------------
 
 
@@ -470,30 +544,104 @@ def cases():
             yield data, some_roll(dice, n)
 
 
+def room_edges(dice):
+    """Every n with no room, a byte short, just enough, a byte over, and with
+    the room that one device fewer or more takes; then a plan that is refused."""
+    for n in range(2, 9):
+        whole = 18 + 12 * n
+        for room in (0, 1, whole - 12, whole - 1, whole, whole + 1, whole + 12, 1000):
+            for _ in range(4):
+                yield eight_slots(good_plan(dice, n)), room
+            refused = eight_slots(good_plan(dice, n))
+            refused[2] = 0
+            yield refused, room
+
+
+WRITES = [
+    (good_write, 400),
+    (wrong_write, 700),
+    (slot_above, 100),
+    (wrong_count, 60),
+]
+
+
+def worked_writes():
+    """Plan P and the laser's of document 01, with just enough room and a byte less."""
+    plan_p = [2, 1, 1, 3, 1, 1, 7, 2, 1, 1, 1, 3, 2, 1, 0, 0]
+    laser = [2, 30, 130, 50, 1, 30, 350, 60, 30, 15, 1, 100, 200, 15, 0, 0]
+    for plan in (plan_p, laser):
+        yield eight_slots(plan), 42
+        yield eight_slots(plan), 41
+
+
+def writes():
+    # Dice of their own: the other cases stay as they are.
+    dice = Dice(20240201)
+    yield from worked_writes()
+    yield from room_edges(dice)
+    for kind, count in WRITES:
+        for _ in range(count):
+            plan = kind(dice)
+            yield plan, some_room(dice, min(plan[0], 8))
+
+
 def stream():
     for data, roll in cases():
         yield b"".join([
+            b"\0",
             struct.pack("<I", len(data)), data,
             struct.pack("<I", len(roll)), roll,
             struct.pack("<BIBII", *answer(data, roll)),
         ])
+    for plan, room in writes():
+        (number, index), written = write_file(plan, room)
+        yield b"".join([
+            b"\1",
+            struct.pack("<52H", *plan), struct.pack("<I", room),
+            struct.pack("<BII", number, index, len(written)), written,
+        ])
 
 
-def count():
-    numbers = {}
-    pieces = {}
-    total = 0
+def tally(table, key):
+    table[key] = table.get(key, 0) + 1
+
+
+def count_reads():
+    numbers, pieces = {}, {}
     for data, roll in cases():
         number, _, which, _, length = answer(data, roll)
-        numbers[number] = numbers.get(number, 0) + 1
-        name = "%s, %s" % (("file", "roll")[which], "a piece" if length else "empty")
-        pieces[name] = pieces.get(name, 0) + 1
-        total += 1
+        tally(numbers, number)
+        tally(pieces, "%s, %s" % (("file", "roll")[which], "a piece" if length else "empty"))
     for number in sorted(numbers):
         print(number, numbers[number])
     for name in sorted(pieces):
         print("finder: %s: %d" % (name, pieces[name]))
-    print("cases:", total)
+    return sum(numbers.values())
+
+
+def room_of(n, room):
+    beside = room - (18 + 12 * n)
+    if beside in (-1, 0, 1):
+        return "%d + 12 N" % (18 + beside)
+    return "less" if beside < 0 else "more"
+
+
+def count_writes():
+    numbers, rooms = {}, {}
+    for plan, room in writes():
+        (number, _), _ = write_file(plan, room)
+        tally(numbers, number)
+        if number in (0, 20):
+            tally(rooms, (plan[0], room_of(plan[0], room), number))
+    for number in sorted(numbers):
+        print("writer: %d %d" % (number, numbers[number]))
+    for n, room, number in sorted(rooms):
+        print("writer: N %d, room %s: %d, %d" % (n, room, number, rooms[n, room, number]))
+    return sum(numbers.values())
+
+
+def count():
+    print("cases:", count_reads() + count_writes())
 
 
 def main():

@@ -1,14 +1,14 @@
 -- What one call leaves, the next one reads.
-use Prim.Native.Nat.{ℕ, zero, suc, _≤_}
-use native.Mathlib.Omega.{arith}
+use Prim.Native.Nat.{ℕ, zero, suc}
 use mathlib.Core.Path.{_≡_, refl, sym}
-use mathlib.Core.Logic.{_⊎_, inl, inr}
-use mathlib.Core.Bool.{Bool, true, false, _&&_}
-use mathlib.Core.List.{List}
+use mathlib.Core.Bool.{true, _&&_}
+use mathlib.Core.List.{List, _++_}
 use lib.Dec.{leb, eqb}
-use lib.ListN.{length}
-use Rattle.laws.proofs.Tests.{case, clash}
+use lib.ListN.{length, take, drop}
+use lib.Seq.{take-append-seam}
+use Rattle.laws.proofs.Tests.{case}
 use Rattle.laws.proofs.Lists.{tabulate-length}
+use Rattle.numbers.specs.Bytes.{AllBytes}
 use Rattle.rules.specs.declared.Plan.{Plan}
 use Rattle.rules.specs.declared.Yard.{Yard}
 use Rattle.rules.specs.declared.Record.{Record}
@@ -18,27 +18,28 @@ use Rattle.rules.specs.declared.TickAnswer.{TickAnswer}
 use Rattle.rules.specs.declared.RunAnswer.{RunAnswer}
 use Rattle.rules.specs.declared.Verdict.{Verdict}
 use Rattle.rules.specs.declared.Verdict.the-variants.{Accepted, Refused}
-use Rattle.rules.specs.Verdict.{numberOf, ifAccepted}
-use Rattle.rules.specs.Table.{broken, table, planVerdict}
+use Rattle.rules.specs.Verdict.{ifAccepted}
+use Rattle.rules.specs.Table.{planVerdict}
 use Rattle.rules.specs.Yard.{freshYard, freshAnswer}
 use Rattle.rules.specs.Tick.{tick, tickVerdict, tickAnswer}
 use Rattle.rules.specs.Tick.Step1.{eachDevice}
 use Rattle.rules.specs.Tick.Step4.{step4}
 use Rattle.rules.specs.Run.{after, runAnswer}
 use Rattle.rules.proofs.Answers.{by-verdict}
-use Rattle.rules.proofs.Plans.Refused.{refused-exactly}
 use Rattle.files.specs.declared.ReadAnswer.{ReadAnswer}
 use Rattle.files.specs.File.{planIn, slotsIn, emptyPlan, wholePlan, fileVerdict, answerOf, readAnswer}
-use Rattle.files.proofs.Numbers.{refused-numbers}
+use Rattle.files.specs.Writing.{fileBytes, writeAnswer, writeBuffer, WithoutNotes, planBytes}
+use Rattle.files.proofs.Bodies.{plan-back}
+use Rattle.files.proofs.GivenBack.{read-then-write}
 use Rattle.printed.specs.declared.Listed.{Listed}
 use Rattle.printed.specs.Listing.{ticksListed, listAnswer}
-use Rattle.encoded.specs.Bytes.{planBytes, yardBytes}
+use Rattle.encoded.specs.Bytes.{yardBytes}
 use Rattle.encoded.specs.Reading.{devicesIn, yardIn, noYard, yardOf}
-use Rattle.encoded.proofs.Plans.{plan-back}
 use Rattle.encoded.proofs.Yards.{yard-back}
-use Rattle.calls.specs.Asked.{sizeVerdict, planSize, sizes, freshFor, tickFor, runFor, readFor, listFor}
-use Rattle.calls.specs.Calls.{Freshened, Ticked, Ran, Taken, Lined}
+use Rattle.calls.specs.Asked.{sizeVerdict, planSize, sizes, freshFor, tickFor, runFor, readFor, writeFor, fileFor, listFor}
+use Rattle.calls.specs.Calls.{Freshened, Ticked, Ran, Taken, Wrote, Lined}
 use Rattle.calls.specs.Theorems.{Chained}
+use Rattle.calls.proofs.Zero.{sized-for, plan-taken, file-taken, write-taken}
 
 -- Every yard that is read or reached has eight devices.
 pub eight-read : (bytes : List ℕ) → length (yardOf bytes .devices) ≡ 8
@@ -61,32 +62,6 @@ chain :
     → ((k i : ℕ) → v ≡ Refused k i → y ≡ yardOf yard) → left ≡ ifAccepted v (yardBytes y) yard → yardOf left ≡ y
 chain Accepted y yard left eight kept e = rw e (yard-back y eight)
 chain (Refused k i) y yard left eight kept e = rw e (sym (kept k i refl))
-
--- A call that answers 0 was not refused for its sizes: 27 is another number.
-sized-for :
-    {A : Type 0} (verdict : A → Verdict) (fits : Bool) (taken refused : A) → verdict refused ≡ sizeVerdict fits
-    → 0 ≡ numberOf (verdict (ifAccepted (sizeVerdict fits) taken refused)) → fits ≡ true
-unfolding sizeVerdict
-sized-for verdict true taken refused e h = refl
-sized-for verdict false taken refused e h = let z : _≡_ {A = ℕ} 0 27 = rw e at h in absurd (omega arith)
-
--- No line of the table has the number 0.
-plan-taken : (p : Plan) → 0 ≡ numberOf (planVerdict p) → planVerdict p ≡ Accepted
-unfolding broken table
-plan-taken p h =
-    by-verdict (planVerdict p) (λ taken. taken) (λ k i r.
-    let zero : 0 ≡ k = rw r at h in
-    let none : broken p 0 i ≡ true = rw (← zero) at (refused-exactly p k i .0 r .here) in
-    clash none refl)
-
--- Nor has any refusal of a plan file.
-file-taken : (file : List ℕ) → 0 ≡ numberOf (readAnswer file .verdict) → readAnswer file .verdict ≡ Accepted
-file-taken file h =
-    by-verdict (readAnswer file .verdict) (λ taken. taken) (λ k i r. absurd (never k i (refused-numbers file k i r) (rw r at h)))
-  where
-    never : (k i : ℕ) → ((14 ≤ k) × (k ≤ 19) × (i ≡ 0)) ⊎ ((2 ≤ k) × (k ≤ 9)) → 0 ≡ k → ⊥
-    never k i (inl h) z = omega (arith, h .0)
-    never k i (inr h) z = omega (arith, h .0)
 
 eight-slots : (file : List ℕ) → length (readAnswer file .plan .slots) ≡ 8
 unfolding readAnswer answerOf planIn slotsIn emptyPlan
@@ -183,15 +158,36 @@ module _ (plan yard : List ℕ) where
       (list-kept (wholePlan plan) (yardOf yard) roll first (length out))
       (rw fits at (a .bytes))
 
+module _ (file plan left : List ℕ) (i : ℕ) (a : Taken file plan left 0 i) where
+  plan-fits : eqb (length plan) 104 ≡ true
+  unfolding readFor
+  plan-fits =
+      sized-for (λ (r : ReadAnswer). r .verdict) (eqb (length plan) 104) (readAnswer file)
+      (record { verdict = sizeVerdict (eqb (length plan) 104); plan = readAnswer file .plan }) refl (a .answer .no)
+
+  read-taken : readAnswer file .verdict ≡ Accepted
+  unfolding readFor sizeVerdict
+  read-taken = file-taken file (rw plan-fits at (a .answer .no))
+
 read-chained : (file plan left : List ℕ) (i : ℕ) → Taken file plan left 0 i → wholePlan left ≡ readAnswer file .plan
 unfolding readFor sizeVerdict
 read-chained file plan left i a =
-    let fits : eqb (length plan) 104 ≡ true =
-    sized-for (λ (r : ReadAnswer). r .verdict) (eqb (length plan) 104) (readAnswer file)
-    (record { verdict = sizeVerdict (eqb (length plan) 104); plan = readAnswer file .plan }) refl (a .answer .no) in
-    let taken : readAnswer file .verdict ≡ Accepted = file-taken file (rw fits at (a .answer .no)) in
-    let same : left ≡ planBytes (readAnswer file .plan) = rw (fits, taken) at (a .bytes) in
-    rw same (plan-back (readAnswer file .plan) (eight-slots file) .1)
+    let same : left ≡ planBytes (readAnswer file .plan) =
+    rw (plan-fits file plan left i a, read-taken file plan left i a) at (a .bytes) in
+    rw same (plan-back (readAnswer file .plan) (eight-slots file))
+
+copied :
+    (file plan left : List ℕ) (i : ℕ) → AllBytes file → WithoutNotes file → Taken file plan left 0 i
+    → (out after : List ℕ) (n j : ℕ) → Wrote left out after 0 n j → take n after ≡ file
+unfolding writeFor fileFor sizeVerdict writeAnswer writeBuffer
+copied file plan left i small bare a out after n j w =
+    let same : wholePlan left ≡ readAnswer file .plan = read-chained file plan left i a in
+    let fits = write-taken left (length out) (w .answer .no) in
+    let q : Plan = wholePlan left in
+    let long : n ≡ length (fileBytes q) = rw (fits .0, fits .1) at (w .long) in
+    let text : after ≡ fileBytes q ++ drop (length (fileBytes q)) out = rw (fits .0, fits .1) at (w .buffer) in
+    rw (text, long, take-append-seam (fileBytes q) (drop (length (fileBytes q)) out), same)
+    (read-then-write file small bare (read-taken file plan left i a))
 
 pub chained : Chained
 chained = record {
@@ -199,5 +195,7 @@ chained = record {
   tick = tick-chained;
   run = run-chained;
   read = read-chained;
+  write = λ plan file after n i w. w .back refl;
+  copy = copied;
   list = list-chained;
 }

@@ -29,6 +29,12 @@ calls-determined = record {
     determined (a .answer .no) (b .answer .no) j,
     determined (a .answer .at) (b .answer .at) j,
   );
+  write = λ plan file r s a b j. (
+    determined (a .buffer) (b .buffer) j,
+    determined (a .answer .no) (b .answer .no) j,
+    determined (a .long) (b .long) j,
+    determined (a .answer .at) (b .answer .at) j,
+  );
   find = λ file roll r s a b j. (
     determined (a .slice) (b .slice) j,
     determined (a .from) (b .from) j,

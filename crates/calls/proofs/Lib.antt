@@ -1,4 +1,5 @@
 pub mod Sizes
+pub mod Zero
 pub mod Lengths
 pub mod Determined
 pub mod Refused

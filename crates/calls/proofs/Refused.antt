@@ -14,7 +14,8 @@ use Rattle.rules.specs.Tick.{tickAnswer}
 use Rattle.rules.specs.Run.{engagedBytes, runAnswer, runBuffer}
 use Rattle.rules.proofs.Answers.{by-verdict}
 use Rattle.printed.specs.Listing.{linesText, ticksListed, listAnswer, listBuffer}
-use Rattle.calls.specs.Asked.{sizeVerdict, sizes, tickFor, runFor, engagedFor, listFor, textFor}
+use Rattle.files.specs.Writing.{writeAnswer, writeBuffer}
+use Rattle.calls.specs.Asked.{sizeVerdict, planSize, sizes, tickFor, runFor, engagedFor, writeFor, fileFor, listFor, textFor}
 use Rattle.calls.specs.Calls.{Answered}
 use Rattle.calls.specs.Theorems.{RefusedUntouched}
 
@@ -48,6 +49,12 @@ module _ (plan yard : List ℕ) where
     no-lines =
         case (sizes plan yard) (λ e. rw e (λ h. (rw h, rw h, rw h))) (λ e. rw e (λ h. (refl, refl, refl)))
 
+no-file :
+    (plan file : List ℕ) {k i : ℕ} → writeFor plan (length file) .verdict ≡ Refused k i
+    → (fileFor plan file ≡ file) × (writeFor plan (length file) .length ≡ 0)
+unfolding writeFor fileFor sizeVerdict writeAnswer writeBuffer
+no-file plan file = case (planSize plan) (λ e. rw e (λ h. (rw h, rw h))) (λ e. rw e (λ h. (refl, refl)))
+
 pub refused-untouched : RefusedUntouched
 refused-untouched = record {
   fresh = λ plan yard after number i a h. refusal (a .answer) h (λ k j e. rw e at (a .bytes));
@@ -60,6 +67,8 @@ refused-untouched = record {
       let none = no-run plan yard roll budget engaged e in
       (rw e at (a .bytes), a .buffer ∙ none .0, a .done ∙ none .1));
   read = λ file plan after number i a h. refusal (a .answer) h (λ k j e. rw e at (a .bytes));
+  write = λ plan file after number n i a h.
+      refusal (a .answer) h (λ k j e. let none = no-file plan file e in (a .buffer ∙ none .0, a .long ∙ none .1));
   list = λ plan yard roll first out after text number ticks n i a h.
       refusal (a .answer) h (λ k j e.
       let none = no-lines plan yard roll first out e in

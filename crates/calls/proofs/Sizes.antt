@@ -15,8 +15,10 @@ use Rattle.rules.specs.declared.Verdict.{Verdict}
 use Rattle.rules.specs.declared.Verdict.the-variants.{Accepted}
 use Rattle.rules.specs.Verdict.{ifAccepted}
 use Rattle.rules.proofs.Answers.{not-both}
-use Rattle.encoded.specs.Bytes.{planBytes, bodyWritten, yardBytes, yardWritten}
-use Rattle.encoded.proofs.Widths.{body-wide, yard-wide}
+use Rattle.files.specs.Writing.{planBytes, planWritten}
+use Rattle.files.proofs.Bodies.{body-wide}
+use Rattle.encoded.specs.Bytes.{yardBytes, yardWritten}
+use Rattle.encoded.proofs.Widths.{yard-wide}
 use Rattle.rules.specs.Run.{engagedBytes}
 use Rattle.rules.proofs.Promises.Bytes.{bytes-kept}
 use Rattle.files.specs.File.{wholePlan}
@@ -51,8 +53,8 @@ yard-fills y l x n long n-is x-is =
 
 pub plan-fills :
     (p : Plan) (l x : List ℕ) (n : ℕ) → length l ≡ 104
-    → n ≡ length (bodyWritten p 8 (length l)) → x ≡ bodyWritten p 8 (length l) ++ drop n l → x ≡ planBytes p
-unfolding bodyWritten
+    → n ≡ length (planWritten p (length l)) → x ≡ planWritten p (length l) ++ drop n l → x ≡ planBytes p
+unfolding planWritten
 plan-fills p l x n long n-is x-is =
     let room = le-leb 104 (length l) (omega arith) in
     (rw room at x-is) ∙ fills (planBytes p) l n (rw room at n-is) (long ∙ sym (body-wide p 8))

@@ -19,7 +19,9 @@ use Rattle.rules.specs.Tick.{tickAnswer}
 use Rattle.rules.specs.Run.{runAnswer, runBuffer}
 use Rattle.rules.specs.Promises.{Kept, shown}
 use Rattle.files.specs.declared.ReadAnswer.{ReadAnswer}
+use Rattle.files.specs.declared.WriteAnswer.{WriteAnswer}
 use Rattle.files.specs.File.{wholePlan, readAnswer}
+use Rattle.files.specs.Writing.{writeAnswer, writeBuffer}
 use Rattle.printed.specs.declared.Listed.{Listed}
 use Rattle.printed.specs.Listing.{listAnswer, listBuffer}
 use Rattle.encoded.specs.Reading.{yardOf}
@@ -72,6 +74,16 @@ unfoldable pub readFor : List ℕ → ℕ → ReadAnswer
 readFor file room =
     let size = sizeVerdict (eqb room 104) in
     ifAccepted size (readAnswer file) (record { verdict = size; plan = readAnswer file .plan })
+
+-- `room` is the length of the buffer for the file.
+unfoldable pub writeFor : List ℕ → ℕ → WriteAnswer
+writeFor plan room =
+    let size = sizeVerdict (planSize plan) in
+    ifAccepted size (writeAnswer (wholePlan plan) room) (record { verdict = size; length = 0 })
+
+-- The buffer for the file afterwards.
+unfoldable pub fileFor : List ℕ → List ℕ → List ℕ
+fileFor plan file = ifAccepted (sizeVerdict (planSize plan)) (writeBuffer (wholePlan plan) file) file
 
 -- `room` is the length of the buffer for the text.
 unfoldable pub listFor : List ℕ → List ℕ → List ℕ → ℕ → ℕ → Listed

@@ -3,7 +3,7 @@
 use Prim.Native.Nat.{ℕ}
 use mathlib.Core.Path.{_≡_}
 use mathlib.Core.List.{List}
-use lib.ListN.{length}
+use lib.ListN.{length, take}
 use Rattle.rules.specs.declared.Verdict.{Verdict}
 use Rattle.rules.specs.declared.Down.{Down}
 use Rattle.rules.specs.declared.Down.the-variants as down
@@ -14,8 +14,10 @@ use Rattle.finder.specs.declared.Piece.{Piece}
 use Rattle.finder.specs.declared.Piece.the-variants.{InFile, InRoll}
 use Rattle.finder.specs.Piece.{piece}
 use Rattle.packed.specs.Numbers.{downIndex}
-use Rattle.encoded.specs.Bytes.{planBytes, yardBytes}
-use Rattle.calls.specs.Asked.{KeptBy, checkFor, freshFor, tickFor, runFor, engagedFor, readFor, listFor, textFor}
+use Rattle.files.specs.File.{wholePlan}
+use Rattle.files.specs.Writing.{ReadAs, planBytes}
+use Rattle.encoded.specs.Bytes.{yardBytes}
+use Rattle.calls.specs.Asked.{KeptBy, checkFor, freshFor, tickFor, runFor, engagedFor, readFor, writeFor, fileFor, listFor, textFor}
 
 -- A down letter as a number: 0 none, 1 LeaseReq, 2 Grant, 3 Cancel, 4 Abort. Beside it goes the device that it is for.
 abbrev pub downNumber : Down → ℕ
@@ -59,6 +61,14 @@ pub record Ran (plan yard roll : List ℕ) (budget : ℕ) (engaged after shownAf
 pub record Taken (file plan after : List ℕ) (number index : ℕ) : Type 0 where
   pub answer : Answered (readFor file (length plan) .verdict) number index
   pub bytes : after ≡ ifAccepted (readFor file (length plan) .verdict) (planBytes (readFor file (length plan) .plan)) plan
+
+-- A plan, written as a file.
+pub record Wrote (plan file after : List ℕ) (number n index : ℕ) : Type 0 where
+  pub answer : Answered (writeFor plan (length file) .verdict) number index
+  pub long : n ≡ writeFor plan (length file) .length
+  pub buffer : after ≡ fileFor plan file
+  -- reading what was written gives the plan back
+  pub back : number ≡ 0 → ReadAs (take n after) (wholePlan plan)
 
 -- The refused piece: of the file for 0, of the roll for 1.
 abbrev pub whichOf : Piece → ℕ

@@ -4,7 +4,8 @@ use mathlib.Core.Path.{_≡_}
 use mathlib.Core.Bool.{cond}
 use mathlib.Core.List.{List}
 use lib.Dec.{eqb}
-use lib.ListN.{length}
+use lib.ListN.{length, take}
+use Rattle.numbers.specs.Bytes.{AllBytes}
 use Rattle.rules.specs.declared.Down.{Down}
 use Rattle.rules.specs.declared.Down.the-variants as down
 use Rattle.rules.specs.declared.Record.{Record}
@@ -14,10 +15,11 @@ use Rattle.rules.specs.Run.{runAnswer}
 use Rattle.finder.specs.declared.Piece.{Piece}
 use Rattle.finder.specs.declared.Piece.the-variants.{InFile, InRoll}
 use Rattle.files.specs.File.{wholePlan, readAnswer}
+use Rattle.files.specs.Writing.{ReadAs, WithoutNotes}
 use Rattle.printed.specs.Listing.{listAnswer}
 use Rattle.packed.specs.Numbers.{downIndex}
 use Rattle.encoded.specs.Reading.{yardOf}
-use Rattle.calls.specs.Calls.{downNumber, Checked, Freshened, Ticked, Ran, Taken, whichOf, startOf, lengthOf, Found, Lined}
+use Rattle.calls.specs.Calls.{downNumber, Checked, Freshened, Ticked, Ran, Taken, Wrote, whichOf, startOf, lengthOf, Found, Lined}
 
 -- Any two results that a contract allows are equal.
 abbrev pub Determined : {A : Type 0} → (A → Type 0) → Type 0
@@ -36,6 +38,7 @@ pub record CallsDetermined : Type 0 where
       (plan yard roll : List ℕ) (budget : ℕ) (engaged : List ℕ)
       → Determined (λ (r : List ℕ × List ℕ × ℕ × ℕ × ℕ). Ran plan yard roll budget engaged (r .0) (r .1) (r .2) (r .3) (r .4))
   pub read : (file plan : List ℕ) → Determined (λ (r : List ℕ × ℕ × ℕ). Taken file plan (r .0) (r .1) (r .2))
+  pub write : (plan file : List ℕ) → Determined (λ (r : List ℕ × ℕ × ℕ × ℕ). Wrote plan file (r .0) (r .1) (r .2) (r .3))
   pub find : (file roll : List ℕ) → Determined (λ (r : ℕ × ℕ × ℕ). Found file roll (r .0) (r .1) (r .2))
   pub list :
       (plan yard roll : List ℕ) (first : ℕ) (out : List ℕ)
@@ -54,12 +57,16 @@ pub record RefusedUntouched : Type 0 where
       → Ran plan yard roll budget engaged after shown number ticks i → 0 < number
       → (after ≡ yard) × (shown ≡ engaged) × (ticks ≡ 0)
   pub read : (file plan after : List ℕ) (number i : ℕ) → Taken file plan after number i → 0 < number → after ≡ plan
+  pub write :
+      (plan file after : List ℕ) (number n i : ℕ) → Wrote plan file after number n i → 0 < number → (after ≡ file) × (n ≡ 0)
   pub list :
       (plan yard roll : List ℕ) (first : ℕ) (out after text : List ℕ) (number ticks n i : ℕ)
       → Lined plan yard roll first out after text number ticks n i → 0 < number
       → (after ≡ yard) × (text ≡ out) × (ticks ≡ 0) × (n ≡ 0)
 
--- What one call leaves, the next one reads: where the number is 0, the yard or the plan of document 01's answer (`chained`).
+-- What one call leaves, the next one reads: where the number is 0, the yard or the plan of document 01's answer. What was
+-- written is read as the plan, and a file without notes that was read into a plan is written from it byte for byte
+-- (`chained`).
 pub record Chained : Type 0 where
   pub fresh : (plan yard after : List ℕ) (i : ℕ) → Freshened plan yard after 0 i → yardOf after ≡ freshYard
   pub tick :
@@ -71,6 +78,11 @@ pub record Chained : Type 0 where
       → Ran plan yard roll budget engaged after shown 0 ticks i
       → yardOf after ≡ runAnswer (wholePlan plan) (yardOf yard) roll budget engaged .yard
   pub read : (file plan after : List ℕ) (i : ℕ) → Taken file plan after 0 i → wholePlan after ≡ readAnswer file .plan
+  pub write :
+      (plan file after : List ℕ) (n i : ℕ) → Wrote plan file after 0 n i → ReadAs (take n after) (wholePlan plan)
+  pub copy :
+      (file plan left : List ℕ) (i : ℕ) → AllBytes file → WithoutNotes file → Taken file plan left 0 i
+      → (out after : List ℕ) (n j : ℕ) → Wrote left out after 0 n j → take n after ≡ file
   pub list :
       (plan yard roll : List ℕ) (first : ℕ) (out after text : List ℕ) (ticks n i : ℕ)
       → Lined plan yard roll first out after text 0 ticks n i

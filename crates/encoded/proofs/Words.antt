@@ -4,6 +4,7 @@ use native.Mathlib.Omega.{arith}
 use mathlib.Core.Path.{_≡_, ap}
 use mathlib.Core.List.{[], _∷_}
 use Rattle.laws.proofs.Parts.{low-part, high-part}
+use Rattle.numbers.specs.Bytes.{twoBytes, fourBytes}
 use Rattle.rules.specs.declared.Base.{Base}
 use Rattle.rules.specs.declared.Base.the-variants as base
 use Rattle.rules.specs.declared.Device.{Device}
@@ -12,7 +13,7 @@ use Rattle.packed.specs.Packed.{packed, unpacked}
 use Rattle.packed.proofs.Back.{place-below}
 use Rattle.rules.specs.Tick.Step3.{baseIndex}
 use Rattle.encoded.specs.Numbers.{baseNumber}
-use Rattle.encoded.specs.Bytes.{twoBytes, fourBytes, deviceBytes}
+use Rattle.encoded.specs.Bytes.{deviceBytes}
 
 pair-bytes : (a b : ℕ) → a < 256 → twoBytes (a + 256 * b) ≡ a ∷ b ∷ []
 unfolding twoBytes

@@ -1,7 +1,6 @@
 -- A yard's bytes are read as that yard.
-use Prim.Native.Nat.{ℕ, _+_, _-_, _*_, _/_, _%_, _≤_, _<_}
+use Prim.Native.Nat.{ℕ, _+_, _-_, _*_, _≤_, _<_}
 use native.Mathlib.Omega.{arith}
-use native.Mathlib.Nat.{mod-add-div}
 use mathlib.Core.Path.{_≡_, refl, _∙_}
 use mathlib.Core.Bool.{false}
 use mathlib.Core.List.{List, [], _∷_, _++_}
@@ -9,6 +8,9 @@ use lib.Dec.{ltb}
 use lib.ListN.{length, getD}
 use borrow.Author.Tests.{le-leb}
 use Rattle.laws.proofs.Lists.{tabulate-same, tabulate-back}
+use Rattle.numbers.specs.Bytes.{num16, num32, twoBytes, fourBytes}
+use Rattle.numbers.proofs.Pieces.{byte-stands, first-stands}
+use Rattle.numbers.proofs.Back.{two-back, four-back}
 use Rattle.rules.specs.declared.Base.{Base}
 use Rattle.rules.specs.declared.Base.the-variants as base
 use Rattle.rules.specs.declared.Place.{Place}
@@ -17,14 +19,12 @@ use Rattle.rules.specs.declared.Device.{Device}
 use Rattle.rules.specs.declared.Yard.{Yard}
 use Rattle.rules.specs.Yard.{freshDevice, placeNumber}
 use Rattle.packed.proofs.Back.{place-back, letter-back}
-use Rattle.files.specs.Bytes.{num16, num32}
 use Rattle.rules.specs.Tick.Step3.{baseIndex}
 use Rattle.encoded.specs.Numbers.{baseNumber, baseOf, deviceOf}
-use Rattle.encoded.specs.Bytes.{twoBytes, fourBytes, deviceBytes, devicesBytes, yardBytes}
+use Rattle.encoded.specs.Bytes.{deviceBytes, devicesBytes, yardBytes}
 use Rattle.encoded.specs.Reading.{deviceIn, devicesIn, yardIn, yardOf}
 use Rattle.encoded.specs.Theorems.{YardBack}
 use Rattle.encoded.proofs.Widths.{device-wide, yard-wide}
-use Rattle.encoded.proofs.Pieces.{byte-stands, first-stands, two-back}
 
 base-back : (b : Base) → baseOf (baseNumber b) (baseIndex b) ≡ b
 unfolding baseOf
@@ -45,9 +45,6 @@ device-again : (d : Device) → deviceIn (deviceBytes d) 0 ≡ d
 unfolding deviceIn deviceOf deviceBytes twoBytes num16
 device-again d =
     rw (is-place (d .place), two-back (d .clock), place-back (d .place), letter-back (d .letter))
-
-four-back : (v : ℕ) → v % 65536 % 256 + 256 * (v % 65536 / 256) + 65536 * (v / 65536 % 256 + 256 * (v / 65536 / 256)) ≡ v
-four-back v = rw (two-back (v % 65536), two-back (v / 65536)) (mod-add-div v 65536)
 
 module _ (y : Yard) where
   abbrev device-of : ℕ → Device

@@ -5,11 +5,11 @@ use mathlib.Core.List.{List}
 use lib.Dec.{leb}
 use lib.ListN.{length, getD, replicate}
 use Rattle.laws.specs.Lists.{tabulate}
+use Rattle.numbers.specs.Bytes.{num16, num32}
 use Rattle.rules.specs.declared.Base.the-variants as base
 use Rattle.rules.specs.declared.Device.{Device}
 use Rattle.rules.specs.declared.Yard.{Yard}
 use Rattle.rules.specs.Yard.{freshDevice}
-use Rattle.files.specs.Bytes.{num16, num32}
 use Rattle.encoded.specs.Numbers.{baseOf, deviceOf}
 
 -- The device whose four bytes stand from a place on.

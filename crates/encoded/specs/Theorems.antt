@@ -4,16 +4,12 @@ use mathlib.Core.Path.{_≡_}
 use mathlib.Core.Bool.{false}
 use mathlib.Core.List.{List}
 use lib.ListN.{length, getD}
+use Rattle.numbers.specs.Bytes.{AllBytes}
 use Rattle.rules.specs.declared.Plan.{Plan}
 use Rattle.rules.specs.declared.Yard.{Yard}
 use Rattle.rules.specs.Yard.{wellFormed}
-use Rattle.files.specs.File.{planIn, wholePlan}
-use Rattle.encoded.specs.Bytes.{planBytes, yardBytes}
+use Rattle.encoded.specs.Bytes.{yardBytes}
 use Rattle.encoded.specs.Reading.{yardOf}
-
--- A plan's bytes are read as that plan; every plan has eight slots (`plan-back`).
-abbrev pub PlanBack : Type 0
-PlanBack = (p : Plan) → length (p .slots) ≡ 8 → (planIn 8 (planBytes p) ≡ p) × (wholePlan (planBytes p) ≡ p)
 
 -- What one call leaves, the next one reads; every yard has eight devices (`yard-back`).
 abbrev pub YardBack : Type 0
@@ -40,5 +36,5 @@ MalformedRefused = (bytes : List ℕ) → Malformed bytes → (p : Plan) → wel
 -- All others are given back: no two of them are read as one yard (`bytes-back`).
 abbrev pub BytesBack : Type 0
 BytesBack =
-    (bytes : List ℕ) → length bytes ≡ 40 → ((k : ℕ) → getD bytes k 0 < 256) → (Malformed bytes → ⊥)
+    (bytes : List ℕ) → length bytes ≡ 40 → AllBytes bytes → (Malformed bytes → ⊥)
     → yardBytes (yardOf bytes) ≡ bytes

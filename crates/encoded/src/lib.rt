@@ -1,2 +1,2 @@
-// Plans and yards as bytes, for callers in other languages, as definitions and theorems; the code that writes and reads them
-// stands in `layout`. No running code.
+// Yards as bytes, for callers in other languages, as definitions and theorems; the code that writes and reads them stands in
+// `layout`. No running code.

@@ -1,6 +1,7 @@
 // The answers of document 01's calls to plans and yards that are lent as bytes. A wrong length is refused before all else.
-use crate::answers::size_verdict;
+use answers::size_verdict;
 use files::ReadAnswer;
+use files::WriteAnswer;
 use printed::Listed;
 use rules::Down;
 use rules::FreshAnswer;
@@ -9,8 +10,11 @@ use rules::RunAnswer;
 use rules::TickAnswer;
 use rules::Verdict;
 ghost use mathlib.Core.Path.{_≡_};
-ghost use lib.ListN.{length};
-ghost use Rattle.calls.specs.Asked.{KeptBy, checkFor, freshFor, tickFor, runFor, engagedFor, readFor, listFor, textFor};
+ghost use lib.ListN.{length, take};
+ghost use Rattle.rules.specs.declared.Verdict.the-variants.{Accepted};
+ghost use Rattle.files.specs.File.{wholePlan};
+ghost use Rattle.files.specs.Writing.{ReadAs};
+ghost use Rattle.calls.specs.Asked.{KeptBy, checkFor, freshFor, tickFor, runFor, engagedFor, readFor, writeFor, fileFor, listFor, textFor};
 
 pub(crate) fn check_for(plan: &[u8]) -> Verdict
     ensures { λ r. ⌜ r ≡ checkFor (now (plan .entry)) ⌝ }
@@ -90,6 +94,22 @@ pub(crate) fn read_for(file: &[u8], room: usize) -> ReadAnswer
         };
     };
     a
+}
+
+pub(crate) fn write_for(plan: &[u8], file: &mut [u8]) -> WriteAnswer
+    ensures { λ a. ⌜ a ≡ writeFor (now (plan .entry)) (length (now (file .entry))) ⌝ }
+    ensures { λ a. ⌜ now (file .exit) ≡ fileFor (now (plan .entry)) (now (file .entry)) ⌝ }
+    ensures { λ a. ⌜ (a .verdict ≡ Accepted → ReadAs (take (a .length) (now (file .exit))) (wholePlan (now (plan .entry)))) ⌝ }
+{
+    let p = planfile::whole_plan(plan);
+    let size = size_verdict(plan.len() == 104);
+    let Verdict::Accepted = size else {
+        return WriteAnswer {
+            verdict: size,
+            length: 0,
+        };
+    };
+    planfile::write(p, file)
 }
 
 pub(crate) fn list_for(plan: &[u8], bytes: &[u8], roll: &[u8], first: u32, out: &mut [u8]) -> Listed

@@ -1,14 +1,12 @@
 // The calls for C and Rust: numbers and byte slices. include/wilatkhun.h has each contract in words, and the bytes' layout.
 //
 // A number behind a reference (index, ticks, length, start, down, device) is always written. A call that refuses changes no
-// byte of a lent buffer. No function here has a `requires`.
-mod answers;
+// byte of a lent buffer. No exported function has a `requires`.
 mod asked;
+mod kept;
 
 use answers::answer;
 use answers::down_number;
-use answers::keep_plan;
-use answers::keep_yard;
 use answers::piece_len;
 use answers::piece_slice;
 use answers::piece_start;
@@ -18,13 +16,16 @@ use asked::list_for;
 use asked::read_for;
 use asked::run_for;
 use asked::tick_for;
+use asked::write_for;
+use kept::keep_plan;
+use kept::keep_yard;
 use packed::down_index;
 use rules::Record;
 ghost use mathlib.Core.Path.{_≡_};
 ghost use Prim.Native.Nat.{_+_};
 ghost use lib.ListN.{length};
 ghost use Rattle.printed.specs.Listing.{headerWritten, headerBuffer};
-ghost use Rattle.calls.specs.Calls.{Checked, Freshened, Ticked, Ran, Taken, Found, Lined};
+ghost use Rattle.calls.specs.Calls.{Checked, Freshened, Ticked, Ran, Taken, Wrote, Found, Lined};
 
 #[no_mangle]
 pub extern "C" fn wilatkhun_check(plan: &[u8], index: &mut usize) -> u8
@@ -102,6 +103,21 @@ pub extern "C" fn wilatkhun_read(file: &[u8], plan: &mut [u8], index: &mut usize
     let verdict = a.verdict;
     let p = a.plan;
     keep_plan(verdict, p, plan);
+    answer(verdict, index)
+}
+
+#[no_mangle]
+pub extern "C" fn wilatkhun_write(
+    plan: &[u8],
+    file: &mut [u8],
+    len: &mut usize,
+    index: &mut usize,
+) -> u8
+    ensures { λ r. ⌜ Wrote (now (plan .entry)) (now (file .entry)) (now (file .exit)) r (now (len .exit)) (now (index .exit)) ⌝ }
+{
+    let written = write_for(plan, file);
+    let verdict = written.verdict;
+    *len = written.length;
     answer(verdict, index)
 }
 

@@ -1,5 +1,5 @@
 -- What a file is answered, by its length, its trailer and its body; and what is true of every answer.
-use Prim.Native.Nat.{ℕ, _+_, _-_, _*_, _≤_, _<_}
+use Prim.Native.Nat.{ℕ, _+_, _-_, _*_, _≤_}
 use native.Mathlib.Omega.{arith}
 use mathlib.Core.Path.{_≡_, sym, _∙_, ap}
 use mathlib.Core.Bool.{not}
@@ -7,17 +7,16 @@ use mathlib.Core.List.{List}
 use lib.Dec.{eqb}
 use lib.ListN.{length, take, drop, length-drop}
 use lib.Seq.{length-take-le}
-use borrow.Author.Tests.{lt-ltb, eq-eqb, ne-eqb}
-use borrow.Rule.Slice.PartAt.{part-to-end}
+use borrow.Author.Tests.{eq-eqb, ne-eqb}
 use Rattle.rules.specs.declared.Verdict.{Verdict}
 use Rattle.rules.specs.declared.Verdict.the-variants.{Accepted, Refused}
-use Rattle.rules.specs.Verdict.{refusedIf, firstRefusal}
+use Rattle.rules.specs.Verdict.{refusedIf}
 use Rattle.rules.specs.Table.{planVerdict}
 use Rattle.rules.proofs.Answers.{by-verdict, first-accepted}
 use Rattle.rules.proofs.Plans.Accepted.{accepted-exactly}
 use Rattle.files.specs.declared.Trailer.{Trailer}
-use Rattle.files.specs.Bytes.{num16}
-use Rattle.files.specs.File.{trailerIn, trailerOf, bodyAt, devicesFor, planIn, planOf, emptyPlan, trailerVerdict, bodyVerdict, fileVerdict, answerOf, readAnswer, bodySpan}
+use Rattle.numbers.specs.Bytes.{num16}
+use Rattle.files.specs.File.{trailerOf, bodyAt, devicesFor, planIn, planOf, emptyPlan, trailerVerdict, bodyVerdict, fileVerdict, answerOf, readAnswer, bodySpan}
 use Rattle.files.specs.Theorems.{TrailerHolds, ReadAccepts, RefusedEmpty, NotesFree, OneAnswer}
 use Rattle.files.proofs.Trailers.{devices-back, trailer-holds}
 
@@ -25,25 +24,14 @@ use Rattle.files.proofs.Trailers.{devices-back, trailer-holds}
 abbrev partOf : List ℕ → ℕ → ℕ → List ℕ
 partOf l start end = take (end - start) (drop start l)
 
-pub short-refused : (file : List ℕ) → length file < 10 → answerOf (Refused 14 0) emptyPlan ≡ readAnswer file
-unfolding readAnswer answerOf trailerVerdict firstRefusal
-short-refused file h = rw (lt-ltb (length file) 42 (omega arith))
-
-pub short-span : (file : List ℕ) → length file < 10 → record { start = 0; len = 0 } ≡ bodySpan file
-unfolding bodySpan trailerVerdict firstRefusal
-short-span file h = rw (lt-ltb (length file) 42 (omega arith))
-
--- The trailer t was read from the file's last ten bytes, and v is the verdict on it.
+-- The trailer t is the file's, and v is the verdict on it.
 module _
     (file : List ℕ)
     (t : Trailer)
     (v : Verdict)
-    (was-read : t ≡ trailerIn (partOf file (length file - 10) (length file)))
+    (is-the-trailer : t ≡ trailerOf file)
     (was-judged : v ≡ trailerVerdict (length file) t)
   where
-    is-the-trailer : t ≡ trailerOf file
-    is-the-trailer = was-read ∙ ap trailerIn (part-to-end file (length file - 10))
-
     pub trailer-refused : {k i : ℕ} → v ≡ Refused k i → answerOf v emptyPlan ≡ readAnswer file
     unfolding readAnswer answerOf
     trailer-refused e = rw (← is-the-trailer, ← was-judged, e)
@@ -77,17 +65,14 @@ module _
         right-number = n-is ∙ ap devicesFor (holds .devices .3) ∙ devices-back (holds .devices .0)
 
         pub devices-fit :
-            (2 ≤ n)
-            × (n ≤ 8)
-            × (length (partOf file (length file - t .back) (length file - t .back + t .size)) ≡ 8 + 12 * n)
-        devices-fit = (
-          rw right-number (holds .devices .1),
-          rw right-number (holds .devices .2),
-          ap length is-the-body
-              ∙ length-take-le (t .size) (drop (length file - t .back) file)
-              (rw (length-drop (length file - t .back) file) (omega (arith, holds .body)))
-              ∙ rw right-number (holds .devices .3),
-        )
+            (n ≤ 8) × (8 + 12 * n ≤ length (partOf file (length file - t .back) (length file - t .back + t .size)))
+        devices-fit =
+            let long : length (partOf file (length file - t .back) (length file - t .back + t .size)) ≡ 8 + 12 * n =
+            ap length is-the-body
+            ∙ length-take-le (t .size) (drop (length file - t .back) file)
+            (rw (length-drop (length file - t .back) file) (omega (arith, holds .body)))
+            ∙ rw right-number (holds .devices .3) in
+            (rw right-number (holds .devices .2), omega arith)
 
         pub trailer-taken :
             (body : List ℕ) → body ≡ partOf file (length file - t .back) (length file - t .back + t .size)

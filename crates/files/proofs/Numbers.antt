@@ -18,7 +18,7 @@ use Rattle.rules.proofs.Answers.{by-verdict, not-both, refused-if}
 use Rattle.rules.proofs.Plans.Table.{kept, no-line}
 use Rattle.rules.proofs.Plans.Refused.{refused-exactly}
 use Rattle.files.specs.declared.Trailer.{Trailer}
-use Rattle.files.specs.Bytes.{num16}
+use Rattle.numbers.specs.Bytes.{num16}
 use Rattle.files.specs.File.{theMark, trailerOf, bodyAt, devicesFor, isBodySize, planIn, trailerVerdict, bodyVerdict, answerOf, readAnswer}
 use Rattle.files.specs.Theorems.{RefusedNumbers}
 use Rattle.files.proofs.Trailers.{devices-back, trailer-holds}

@@ -3,9 +3,10 @@ use Prim.Native.Nat.{ℕ, _+_, _-_, _*_, _<_}
 use native.Mathlib.Omega.{arith}
 use mathlib.Core.Path.{_≡_, sym, _∙_, ap}
 use mathlib.Core.List.{List}
-use lib.ListN.{set}
+use lib.ListN.{set, take, drop}
 use borrow.Author.Tests.{le-leb, lt-leb}
 use Rattle.laws.proofs.Lists.{tabulate-at, swept-none, swept-next}
+use Rattle.numbers.proofs.Pieces.{number-part}
 use Rattle.rules.specs.declared.Slot.{Slot}
 use Rattle.rules.specs.Plan.{slot, emptySlot}
 use Rattle.files.specs.File.{slotIn, slotsIn, planIn, emptyPlan}
@@ -16,6 +17,23 @@ unfolding slot planIn slotsIn
 slots-read n body i low high =
     let here = tabulate-at _ 8 i emptySlot low high in
     (λ h. here ∙ rw (le-leb i n h), λ h. here ∙ rw (lt-leb i n h))
+
+-- A slot is read from its own twelve bytes as from the body.
+pub slot-part : (body : List ℕ) (at : ℕ) → slotIn (take (at + 12 - at) (drop at body)) 0 ≡ slotIn body at
+unfolding slotIn
+slot-part body at =
+    let twelve : at + 12 - at ≡ 12 = omega arith in
+    let none : at + 0 ≡ at = omega arith in
+    rw (
+      twelve,
+      number-part body at 12 0 (omega arith),
+      number-part body at 12 2 (omega arith),
+      number-part body at 12 4 (omega arith),
+      number-part body at 12 6 (omega arith),
+      number-part body at 12 8 (omega arith),
+      number-part body at 12 10 (omega arith),
+      none,
+    )
 
 module _ (body : List ℕ) where
   pub none-read : emptyPlan .slots ≡ slotsIn 0 body

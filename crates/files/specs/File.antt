@@ -15,7 +15,7 @@ use Rattle.rules.specs.Table.{planVerdict}
 use Rattle.files.specs.declared.Trailer.{Trailer}
 use Rattle.files.specs.declared.ReadAnswer.{ReadAnswer}
 use Rattle.files.specs.declared.Span.{Span}
-use Rattle.files.specs.Bytes.{num16, num32}
+use Rattle.numbers.specs.Bytes.{num16, num32}
 
 -- The trailer is the last 10 bytes; of a shorter file, which is refused, all.
 abbrev pub lastTen : List ℕ → List ℕ

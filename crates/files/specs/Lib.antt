@@ -1,4 +1,4 @@
-pub mod Bytes
 pub mod File
+pub mod Writing
 pub mod Worked
 pub mod Theorems

@@ -1,9 +1,6 @@
--- Plan P of document 01, "Worked yards", as a file.
+-- Plan P and the laser settings of document 01, "Worked yards", as files.
 use Prim.Native.Nat.{ℕ}
 use mathlib.Core.List.{List, [], _∷_, _++_}
-use Rattle.rules.specs.declared.Verdict.the-variants.{Accepted}
-use Rattle.rules.specs.Worked.{P}
-use Rattle.files.specs.declared.ReadAnswer.{ReadAnswer}
 
 -- N, W, B, Q, then F, E, R, X, G, S of devices 1 and 2.
 unfoldable pub bodyP : List ℕ
@@ -22,5 +19,10 @@ noted =
     0x6e ∷ 0x6f ∷ 0x74 ∷ bodyP
     ++ 0x65 ∷ 0x73 ∷ 0x20 ∷ 0x00 ∷ 0x01 ∷ 0x00 ∷ 0x2c ∷ 0x00 ∷ 0x00 ∷ 0x00 ∷ 0x59 ∷ 0x50 ∷ []
 
-abbrev pub readsP : ReadAnswer
-readsP = record { verdict = Accepted; plan = P }
+-- The laser settings of document 000 in tenths: W 30, B 130, Q 50; 30, 350, 60, G 30, S 15; 100, 200, 15; F 1.
+unfoldable pub laserFile : List ℕ
+laserFile =
+    0x02 ∷ 0x00 ∷ 0x1e ∷ 0x00 ∷ 0x82 ∷ 0x00 ∷ 0x32 ∷ 0x00
+    ∷ 0x01 ∷ 0x00 ∷ 0x1e ∷ 0x00 ∷ 0x5e ∷ 0x01 ∷ 0x3c ∷ 0x00 ∷ 0x1e ∷ 0x00 ∷ 0x0f ∷ 0x00
+    ∷ 0x01 ∷ 0x00 ∷ 0x64 ∷ 0x00 ∷ 0xc8 ∷ 0x00 ∷ 0x0f ∷ 0x00 ∷ 0x00 ∷ 0x00 ∷ 0x00 ∷ 0x00
+    ∷ 0x20 ∷ 0x00 ∷ 0x01 ∷ 0x00 ∷ 0x2a ∷ 0x00 ∷ 0x00 ∷ 0x00 ∷ 0x59 ∷ 0x50 ∷ []

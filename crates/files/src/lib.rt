@@ -1,4 +1,4 @@
-// Document 01's "The plan file": types here, definitions and theorems in specs/. The reader stands in `planfile`.
+// Document 01's "The plan file": types here, definitions and theorems in specs/. Its reader and its writer stand in `planfile`.
 use rules::Plan;
 use rules::Verdict;
 
@@ -20,4 +20,10 @@ pub struct Span {
 pub struct ReadAnswer {
     pub verdict: Verdict,
     pub plan: Plan,
+}
+
+// What the writer answers: the verdict, and how many bytes it wrote.
+pub struct WriteAnswer {
+    pub verdict: Verdict,
+    pub length: usize,
 }

@@ -8,8 +8,8 @@ use mathlib.Core.List.{List, [], _∷_, _++_}
 use mathlib.Core.Bool.{Bool, false, cond}
 use lib.Dec.{leb, eqb}
 use borrow.Author.Tests.{eqb-true, eqb-false, lt-leb, le-leb}
-use lib.ListN.{length, getD, set, drop, length-set, length-append, List·getD-append}
-use lib.Seq.{getD-at, set-at, drop-cons, append-snoc, ext-getD, getD-append-add, getD-set-same, getD-set-other}
+use lib.ListN.{length, getD, set, take, drop, length-set, length-append, List·getD-append}
+use lib.Seq.{getD-at, set-at, drop-cons, take-add, drop-drop, append-snoc, ext-getD, getD-append-add, getD-set-same, getD-set-other}
 use Rattle.laws.specs.Lists.{tabulate, swept, joined}
 use Rattle.laws.proofs.Tests.{case, tests}
 
@@ -99,6 +99,25 @@ pub write-next :
 write-next done buffer k x d e h =
     rw (drop-cons buffer k d h, add-one k)
     (set-at done (getD buffer k d) (drop (suc k) buffer) x k e ∙ sym (append-snoc done x (drop (suc k) buffer)))
+
+-- Two parts of a list, one behind the other.
+pub parts-join :
+    {A : Type 0} (l : List A) (at m n : ℕ) → take m (drop at l) ++ take n (drop (at + m) l) ≡ take (m + n) (drop at l)
+parts-join l at m n = sym (take-add m n (drop at l) ∙ rw (drop-drop m at l))
+
+-- Parts of a list that stand one behind the other are one part of it.
+pub pieces-join :
+    {A : Type 0} (f : ℕ → List A) (l : List A) (start w n : ℕ)
+    → ((i : ℕ) → 1 ≤ i → i ≤ n → f i ≡ take w (drop (start + w * (i - 1)) l)) → joined f n ≡ take (w * n) (drop start l)
+unfolding joined
+pieces-join f l start w zero is =
+    ap (λ (k : ℕ). take k (drop start l)) {x = 0} {y = w * 0} (omega arith)
+pieces-join f l start w (suc n) is =
+    let last : f (suc n) ≡ take w (drop (start + w * n) l) =
+    is (suc n) (omega arith) (omega arith)
+    ∙ ap (λ (k : ℕ). take w (drop (start + w * k) l)) {x = suc n - 1} {y = n} (omega arith) in
+    rw (pieces-join f l start w n (λ i low high. is i low (omega arith)), last)
+    (parts-join l start (w * n) w ∙ ap (λ (k : ℕ). take k (drop start l)) (sym (mul-suc w n)))
 
 -- Pieces of one length, one behind the other.
 module _ {A : Type 0} (f : ℕ → List A) (w : ℕ) (wide : (i : ℕ) → length (f i) ≡ w) where

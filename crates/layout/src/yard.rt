@@ -1,11 +1,14 @@
 // A yard as bytes: where the base stands, its device, the place clock (2), the lease clock (4), then for each of the eight
 // devices its clock (2), its place and its letter.
-use crate::numbers::put_four;
-use crate::numbers::put_twos;
+use numbers::read::byte_at;
+use numbers::read::four_at;
+use numbers::read::two;
+use numbers::read::two_at;
+use numbers::write::put_four;
+use numbers::write::put_two;
 use packed::letter_of;
 use packed::pack;
 use packed::place_of;
-use planfile::bytes::two;
 use rules::Base;
 use rules::Device;
 use rules::Letter;
@@ -13,10 +16,9 @@ use rules::Place;
 use rules::Yard;
 ghost use mathlib.Core.Path.{_≡_};
 ghost use mathlib.Core.List.{_++_};
-ghost use Prim.Native.Nat.{_+_, _*_, _≤_, _<_};
+ghost use Prim.Native.Nat.{_+_, _*_, _≤_};
 ghost use lib.ListN.{length, drop};
 ghost use Rattle.laws.specs.Written.{Written};
-ghost use Rattle.files.specs.Bytes.{num16, num32};
 ghost use Rattle.encoded.specs.Numbers.{baseNumber, baseOf, deviceOf};
 ghost use Rattle.rules.specs.Tick.Step3.{baseIndex};
 ghost use Rattle.encoded.specs.Bytes.{devicesBytes, yardWritten};
@@ -35,17 +37,14 @@ fn base_word(base: Base) -> u16
 }
 
 // A device's four bytes are those of its number.
-fn put_devices(devices: [Device; 8], out: &mut [u8], at: usize) -> usize
-    requires { ⌜ at + 32 ≤ length (now out) ⌝ }
-    ensures { λ r. ⌜ Written (now (out .entry)) at (devicesBytes devices 8) (now (out .exit)) r ⌝ }
+fn put_devices(devices: [Device; 8], out: &mut [u8])
+    ensures { λ r. ⌜ Written (now (out .entry)) 8 (devicesBytes devices 8) (now (out .exit)) 40 ⌝ }
 {
-    let mut end = at;
     let mut k: usize = 0;
     while k < 8 {
-        end = put_four(pack(devices[k]), out, end);
+        put_four(pack(devices[k]), out, 8 + 4 * k);
         k += 1;
     }
-    end
 }
 
 // A yard's 40 bytes at the front of a buffer; the answer is how many bytes were written, none in a shorter buffer. Later
@@ -59,9 +58,11 @@ pub fn put(y: Yard, out: &mut [u8]) -> usize
     }
     let base = y.base;
     let devices = y.devices;
-    let lease = put_twos(base_word(base), y.clock, out, 0);
-    let first = put_four(y.lease, out, lease);
-    put_devices(devices, out, first)
+    put_two(base_word(base), out, 0);
+    put_two(y.clock, out, 2);
+    put_four(y.lease, out, 4);
+    put_devices(devices, out);
+    40
 }
 
 // A base that no plan takes: there is no device 0.
@@ -101,22 +102,18 @@ fn device_of(clock: u16, place: u8, letter: u8) -> Device
     }
 }
 
-fn two_in(bytes: &[u8], at: usize) -> u16
-    requires { ⌜ at + 1 < length (now bytes) ⌝ }
-    ensures { λ r. ⌜ r ≡ num16 (now (bytes .entry)) at ⌝ }
-{
-    two(bytes[at], bytes[at + 1])
-}
-
 fn device_in(bytes: &[u8], at: usize) -> Device
-    requires { ⌜ at + 3 < length (now bytes) ⌝ }
+    requires { ⌜ at ≤ 36 ⌝ }
     ensures { λ r. ⌜ r ≡ deviceIn (now (bytes .entry)) at ⌝ }
 {
-    device_of(two_in(bytes, at), bytes[at + 2], bytes[at + 3])
+    device_of(
+        two_at(bytes, at),
+        byte_at(bytes, at + 2),
+        byte_at(bytes, at + 3),
+    )
 }
 
 fn devices_in(bytes: &[u8]) -> [Device; 8]
-    requires { ⌜ 40 ≤ length (now bytes) ⌝ }
     ensures { λ r. ⌜ r ≡ devicesIn (now (bytes .entry)) ⌝ }
 {
     let d = Device {
@@ -131,19 +128,6 @@ fn devices_in(bytes: &[u8]) -> [Device; 8]
         k += 1;
     }
     devices
-}
-
-fn lease_in(bytes: &[u8]) -> u32
-    requires { ⌜ 40 ≤ length (now bytes) ⌝ }
-    ensures { λ r. ⌜ r ≡ num32 (now (bytes .entry)) 4 ⌝ }
-{
-    broad(two_in(bytes, 4)) + 65536 * broad(two_in(bytes, 6))
-}
-
-fn broad(x: u16) -> u32
-    ensures { λ r. ⌜ (r ≡ x) × (r < 65536) ⌝ }
-{
-    x as u32
 }
 
 fn no_yard() -> Yard
@@ -170,9 +154,9 @@ pub fn read(bytes: &[u8]) -> Yard
         return no_yard();
     }
     Yard {
-        base: base_of(bytes[0], bytes[1]),
-        clock: two_in(bytes, 2),
-        lease: lease_in(bytes),
+        base: base_of(byte_at(bytes, 0), byte_at(bytes, 1)),
+        clock: two_at(bytes, 2),
+        lease: four_at(bytes, 4),
         devices: devices_in(bytes),
     }
 }

@@ -1,13 +1,13 @@
 // The lines of a roll, tick after tick.
 use crate::Listed;
 use crate::line::line;
+use numbers::widths::long;
 use rolls::record_at;
 use rules::Plan;
 use rules::Record;
 use rules::Verdict;
 use rules::Yard;
 ghost use mathlib.Core.Path.{_≡_};
-ghost use Prim.Native.Nat.{_<_};
 ghost use lib.ListN.{length};
 ghost use Rattle.rules.specs.declared.Verdict.the-variants.{Accepted};
 ghost use Rattle.rules.specs.Tick.Input.{downLost};
@@ -17,12 +17,6 @@ fn down_lost(r: Record) -> bool
     ensures { λ b. ⌜ b ≡ downLost r ⌝ }
 {
     r.flags / 2 % 2 == 1
-}
-
-fn broad(x: u32) -> usize
-    ensures { λ r. ⌜ (r ≡ x) × (r < 4294967296) ⌝ }
-{
-    x as usize
 }
 
 // As many ticks of a roll that is not refused as have room for their lines.
@@ -41,7 +35,7 @@ pub(crate) fn lines(p: Plan, y: Yard, roll: &[u8], first: u32, out: &mut [u8]) -
         let a = yard::tick(p, yard, r);
         let down = a.down;
         yard = a.yard;
-        at = line(broad(first) + k + 1, p.N, yard, down, down_lost(r), out, at);
+        at = line(long(first) + k + 1, p.N, yard, down, down_lost(r), out, at);
         k += 1;
     }
     Listed {

@@ -1,4 +1,5 @@
 // The fields of a line, each written from a place on; the answer is where it ends. Callers have seen that there is room.
+use numbers::widths::long_byte;
 use rules::Base;
 use rules::Device;
 use rules::Down;
@@ -55,19 +56,13 @@ pub(crate) fn number(n: usize, out: &mut [u8], at: usize) -> usize
     put(48 + (n % 10) as u8, out, e)
 }
 
-fn wide(i: u8) -> usize
-    ensures { λ r. ⌜ (r ≡ i) × (r < 256) ⌝ }
-{
-    i as usize
-}
-
 // A field that is a letter with its device's number, which is at most three digits long, and the space before it.
 pub(crate) fn with_index(b: u8, i: u8, out: &mut [u8], at: usize) -> usize
     requires { ⌜ at + 5 ≤ length (now out) ⌝ }
     ensures { λ r. ⌜ Written (now (out .entry)) at (32 ∷ b ∷ decimal i) (now (out .exit)) r × (r ≤ at + 5) ⌝ }
 {
     let e = pair(b' ', b, out, at);
-    number(wide(i), out, e)
+    number(long_byte(i), out, e)
 }
 
 // The supervisor, with a space before it.

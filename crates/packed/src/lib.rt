@@ -2,12 +2,13 @@
 // row: plain numbers can be lent and changed where they are. No function here has a `requires`.
 pub mod times;
 
+use numbers::read::two;
+use numbers::widths::broad;
 use rules::Device;
 use rules::Down;
 use rules::Letter;
 use rules::Place;
 ghost use mathlib.Core.Path.{_≡_};
-ghost use Prim.Native.Nat.{_<_};
 ghost use Rattle.rules.specs.Yard.{placeNumber, letterNumber, engaged};
 ghost use Rattle.packed.specs.Numbers.{placeOf, letterOf, downIndex};
 ghost use Rattle.packed.specs.Packed.{packed, unpacked, packedAll, unpackedAll};
@@ -93,20 +94,13 @@ pub fn down_index(l: Down) -> u8
     }
 }
 
-// A number's byte among four.
-fn broad(x: u8) -> u32
-    ensures { λ r. ⌜ (r ≡ x) × (r < 256) ⌝ }
-{
-    x as u32
-}
-
 // A device as one number, from which it can be had back.
 pub fn pack(d: Device) -> u32
     ensures { λ r. ⌜ (r ≡ packed d) × (unpacked r ≡ d) ⌝ }
 {
     let place = d.place;
     let letter = d.letter;
-    (d.clock as u32) + 65536 * (broad(place_number(place)) + 256 * broad(letter_number(letter)))
+    broad(d.clock) + 65536 * broad(two(place_number(place), letter_number(letter)))
 }
 
 pub fn unpack(w: u32) -> Device

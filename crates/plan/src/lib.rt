@@ -2,6 +2,7 @@
 //
 // Every index is looked at once: 0 for the yard, 1 to N for the devices, above N for the unused slots. At each, the lines
 // that are asked there are tried in the table's order. The verdict is the lowest line found, at the first index that has it.
+use numbers::widths::broad;
 use rules::Plan;
 use rules::Slot;
 use rules::Verdict;
@@ -11,23 +12,17 @@ ghost use Rattle.rules.specs.Plan.{isTime};
 ghost use Rattle.rules.specs.Table.{planVerdict};
 ghost use Rattle.plan.specs.Lines.{stayOf, sizeHolds, yardTimes, deviceTimes, pairTimes, noSpacing, allZero, c2Holds, c3Holds, c4Holds, c5Holds, c6Holds, c7Holds, yardLine, pairLine, lastLine, unusedLine, slotLine, placeAfter};
 
-fn wide(x: u16) -> u32
-    ensures { λ r. ⌜ (r ≡ x) × (r < 65536) ⌝ }
-{
-    x as u32
-}
-
 fn product(a: u16, b: u16) -> u32
     ensures { λ r. ⌜ r ≡ a * b ⌝ }
 {
-    wide(a) * wide(b)
+    broad(a) * broad(b)
 }
 
 // E + R + X of a slot.
 fn stay(s: Slot) -> u32
     ensures { λ r. ⌜ (r ≡ stayOf s) × (r < 196608) ⌝ }
 {
-    wide(s.E) + wide(s.R) + wide(s.X)
+    broad(s.E) + broad(s.R) + broad(s.X)
 }
 
 // A time that a plan may hold.
@@ -83,7 +78,7 @@ fn c3(n: u16, w: u16, q: u16, ls: u32) -> bool
     requires { ⌜ 1 ≤ n ⌝ }
     ensures { λ r. ⌜ r ≡ c3Holds n w q ls ⌝ }
 {
-    (product(n - 1, w) < wide(q)) & (wide(q) < ls)
+    (product(n - 1, w) < broad(q)) & (broad(q) < ls)
 }
 
 // With k devices before it. Callers keep k below 8, so that the sum fits.
@@ -97,13 +92,13 @@ fn c4(k: u16, w: u16, ls: u32, s: Slot) -> bool
 fn c5(s: Slot, next: Slot) -> bool
     ensures { λ r. ⌜ r ≡ c5Holds s next ⌝ }
 {
-    wide(s.E) + wide(s.G) < wide(next.E)
+    broad(s.E) + broad(s.G) < broad(next.E)
 }
 
 fn c6(w: u16, s: Slot, next: Slot) -> bool
     ensures { λ r. ⌜ r ≡ c6Holds w s next ⌝ }
 {
-    wide(w) + stay(next) < wide(s.E) + wide(s.R)
+    broad(w) + stay(next) < broad(s.E) + broad(s.R)
 }
 
 fn c7(s: Slot) -> bool

@@ -1,32 +1,29 @@
-// The plan file's reader: document 01's "The plan file". It takes any bytes; no public function here has a `requires`.
+// The plan file's reader and writer: document 01's "The plan file", and document 02's request 01. They take any bytes, any
+// plan and any buffer; no public function here has a `requires`.
 //
 // The trailer, at the file's end, is read as numbers and judged as numbers. Only when it is taken is the body, a part of the
 // file from wherever the trailer says, handed on to be read.
 mod body;
-pub mod bytes;
 
-use bytes::four_bytes;
-use bytes::two_bytes;
 use files::ReadAnswer;
 use files::Span;
-use files::Trailer;
+use files::WriteAnswer;
 use rules::Plan;
 use rules::Slot;
 use rules::Verdict;
+use trailer::devices_for;
+use trailer::judge;
+use trailer::put_trailer;
+use trailer::refusal;
+use trailer::trailer_for;
+use trailer::trailer_of;
 ghost use mathlib.Core.Path.{_≡_};
-ghost use lib.ListN.{length};
+ghost use mathlib.Core.List.{_++_};
+ghost use lib.ListN.{length, take, drop};
 ghost use Rattle.rules.specs.declared.Verdict.the-variants as verdict;
-ghost use Rattle.files.specs.File.{trailerIn, devicesFor, isBodySize, emptyPlan, trailerVerdict, answerOf, readAnswer, bodySpan, wholePlan};
-
-// The bytes 59 50 hex, little-endian.
-const MARK: u16 = 0x5059;
-
-// Every refusal of a file that is not the plan check's has index 0.
-pub(crate) fn refusal(number: u8) -> Verdict
-    ensures { λ r. ⌜ r ≡ verdict.Refused number 0 ⌝ }
-{
-    Verdict::Refused { number, index: 0 }
-}
+ghost use Rattle.rules.specs.Verdict.{firstOf};
+ghost use Rattle.files.specs.File.{emptyPlan, answerOf, readAnswer, bodySpan, wholePlan};
+ghost use Rattle.files.specs.Writing.{fileBytes, roomVerdict, writeVerdict, writeAnswer, writeBuffer, ReadAs, WithoutNotes, planWritten};
 
 pub(crate) fn empty_plan() -> Plan
     ensures { λ r. ⌜ r ≡ emptyPlan ⌝ }
@@ -65,69 +62,14 @@ pub(crate) fn answer(v: Verdict, plan: Plan) -> ReadAnswer
     }
 }
 
-fn read_trailer(ten: &[u8]) -> Trailer
-    requires { ⌜ length (now ten) ≡ 10 ⌝ }
-    ensures { λ r. ⌜ r ≡ trailerIn (now (ten .entry)) ⌝ }
-{
-    Trailer {
-        size: two_bytes(ten, 0),
-        version: two_bytes(ten, 2),
-        back: four_bytes(ten, 4),
-        mark: two_bytes(ten, 8),
-    }
-}
-
-fn devices_for(size: u16) -> u16
-    ensures { λ r. ⌜ r ≡ devicesFor size ⌝ }
-{
-    if size < 8 {
-        return 0;
-    }
-    (size - 8) / 12
-}
-
-fn is_body_size(size: u16) -> bool
-    ensures { λ r. ⌜ r ≡ isBodySize size ⌝ }
-{
-    let n = devices_for(size);
-    (2 <= n) & (n <= 8) & (size == 8 + 12 * n)
-}
-
-// The verdict on a trailer in a file of len bytes. A distance may be any four-byte number: it is compared, never added to.
-fn judge(len: usize, t: Trailer) -> Verdict
-    ensures { λ r. ⌜ r ≡ trailerVerdict len t ⌝ }
-{
-    if (len < 42) | (65536 < len) {
-        return refusal(14);
-    }
-    if t.mark != MARK {
-        return refusal(15);
-    }
-    if t.version != 1 {
-        return refusal(16);
-    }
-    if !is_body_size(t.size) {
-        return refusal(17);
-    }
-    let size = t.size as usize;
-    let back = t.back as usize;
-    if (back < size + 10) | (len < back) {
-        return refusal(18);
-    }
-    Verdict::Accepted
-}
-
-// The verdict on a file beside the plan that it holds. A refused file gives an all-zero plan.
+// The verdict on a file beside the plan that it holds. A refused file gives an all-zero plan. Writing what was read from a
+// file without notes gives its bytes back.
 pub fn read(file: &[u8]) -> ReadAnswer
     ensures { λ r. ⌜ r ≡ readAnswer (now (file .entry)) ⌝ }
+    ensures { λ r. ⌜ (r .verdict ≡ verdict.Accepted → WithoutNotes (now (file .entry)) → fileBytes (r .plan) ≡ now (file .entry)) ⌝ }
 {
     let len = file.len();
-    // Too short even for a trailer.
-    if len < 10 {
-        return answer(refusal(14), empty_plan());
-    }
-    let last = len - 10;
-    let t = read_trailer(&file[last..]);
+    let t = trailer_of(file);
     let v = judge(len, t);
     let Verdict::Accepted = v else {
         return answer(v, empty_plan());
@@ -144,11 +86,7 @@ pub fn body_span(file: &[u8]) -> Span
     ensures { λ r. ⌜ r ≡ bodySpan (now (file .entry)) ⌝ }
 {
     let len = file.len();
-    if len < 10 {
-        return Span { start: 0, len: 0 };
-    }
-    let last = len - 10;
-    let t = read_trailer(&file[last..]);
+    let t = trailer_of(file);
     let v = judge(len, t);
     let Verdict::Accepted = v else {
         return Span { start: 0, len: 0 };
@@ -161,6 +99,63 @@ pub fn body_span(file: &[u8]) -> Span
     }
 }
 
+// 20 where a buffer of so many bytes is shorter than the file of n devices.
+fn room_verdict(n: u16, room: usize) -> Verdict
+    ensures { λ r. ⌜ r ≡ roomVerdict n room ⌝ }
+{
+    let devices = n as usize;
+    if room < 18 + 12 * devices {
+        return refusal(20);
+    }
+    Verdict::Accepted
+}
+
+// The first of two verdicts that refuses.
+fn first_of(v: Verdict, w: Verdict) -> Verdict
+    ensures { λ r. ⌜ r ≡ firstOf v w ⌝ }
+{
+    match v {
+        Verdict::Accepted => w,
+        Verdict::Refused {
+            number: _,
+            index: _,
+        } => v,
+    }
+}
+
+fn write_verdict(p: Plan, room: usize) -> Verdict
+    ensures { λ r. ⌜ r ≡ writeVerdict p room ⌝ }
+{
+    let checked = plan::check(p);
+    let fits = room_verdict(p.N, room);
+    first_of(checked, fits)
+}
+
+// Writes an accepted plan as a file, at the front of a buffer: body first, trailer straight after it, no notes. The answer
+// has the length written; bytes past that stay. A refusal writes no byte, and answers 0. Reading what was written gives the
+// plan back.
+pub fn write(p: Plan, file: &mut [u8]) -> WriteAnswer
+    ensures { λ r. ⌜ r ≡ writeAnswer p (length (now (file .entry))) ⌝ }
+    ensures { λ r. ⌜ now (file .exit) ≡ writeBuffer p (now (file .entry)) ⌝ }
+    ensures { λ r. ⌜ (r .verdict ≡ verdict.Accepted → ReadAs (take (r .length) (now (file .exit))) p) ⌝ }
+{
+    let v = write_verdict(p, file.len());
+    let Verdict::Accepted = v else {
+        return WriteAnswer {
+            verdict: v,
+            length: 0,
+        };
+    };
+    let n = p.N as usize;
+    let size = 8 + 12 * n;
+    body::put_body(p, n, file);
+    put_trailer(trailer_for(p.N as u8), file, size);
+    WriteAnswer {
+        verdict: v,
+        length: size + 10,
+    }
+}
+
 // The plan in 104 bytes: a body with all eight slots, those above N included, as callers in other languages lend it. It is
 // not checked. Of another length, an all-zero plan, which the check refuses.
 pub fn whole_plan(bytes: &[u8]) -> Plan
@@ -170,4 +165,17 @@ pub fn whole_plan(bytes: &[u8]) -> Plan
         return empty_plan();
     }
     body::plan_in(bytes, 8)
+}
+
+// Those 104 bytes, at the front of a buffer; the answer is how many bytes were written, none in a shorter buffer. Later bytes
+// keep their value.
+pub fn put_whole_plan(p: Plan, out: &mut [u8]) -> usize
+    ensures { λ r. ⌜ r ≡ length (planWritten p (length (now (out .entry)))) ⌝ }
+    ensures { λ r. ⌜ now (out .exit) ≡ planWritten p (length (now (out .entry))) ++ drop r (now (out .entry)) ⌝ }
+{
+    if out.len() < 104 {
+        return 0;
+    }
+    body::put_body(p, 8, out);
+    104
 }

@@ -1,25 +1,16 @@
 // A roll of records, four bytes each: the record at a place, and whether records are valid (refusal 10). No public function
 // here has a `requires`.
+use numbers::read::byte_at;
 use rules::Plan;
 use rules::Record;
 ghost use mathlib.Core.Path.{_≡_};
 ghost use mathlib.Core.Bool.{not};
 ghost use Prim.Native.Nat.{_-_};
-ghost use lib.ListN.{getD};
 ghost use Rattle.laws.specs.Tests.{lowest};
 ghost use Rattle.rules.specs.declared.Plan.{Plan};
 ghost use Rattle.rules.specs.Tick.Input.{validRecord};
 ghost use Rattle.rules.specs.Run.{records, recordAt};
 ghost use Rattle.rolls.specs.Bounds.{Bound};
-
-fn byte_at(roll: &[u8], i: usize) -> u8
-    ensures { λ r. ⌜ r ≡ getD (now (roll .entry)) i 0 ⌝ }
-{
-    if i < roll.len() {
-        return roll[i];
-    }
-    0
-}
 
 // What stands behind the last whole record: the bytes left over, and then zeros.
 fn left_over(roll: &[u8]) -> Record

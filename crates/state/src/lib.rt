@@ -1,4 +1,6 @@
 // Whether a state is well formed (refusal 11). It takes any plan and any state; no public function here has a `requires`.
+use numbers::widths::broad;
+use numbers::widths::wide;
 use packed::place_number;
 use rules::Base;
 use rules::Device;
@@ -8,16 +10,10 @@ use rules::Plan;
 use rules::Slot;
 use rules::Yard;
 ghost use mathlib.Core.Path.{_≡_};
-ghost use Prim.Native.Nat.{_≤_, _<_};
+ghost use Prim.Native.Nat.{_≤_};
 ghost use Rattle.rules.specs.Plan.{slot, LS, isDevice, isParticipant};
 ghost use Rattle.rules.specs.Yard.{indexFormed, clockFormed, leaseFormed, placeFormed, letterFormed, isFresh, deviceFormed, baseFormed, wellFormed, samePlace, sameLetter};
 ghost use Rattle.rules.specs.declared.Letter.the-variants as letter;
-
-fn wide(i: u8) -> u16
-    ensures { λ r. ⌜ r ≡ i ⌝ }
-{
-    i as u16
-}
 
 fn is_device(p: Plan, i: u8) -> bool
     ensures { λ r. ⌜ r ≡ isDevice p i ⌝ }
@@ -65,12 +61,6 @@ fn lease_length(p: Plan) -> u32
     let slots = p.slots;
     let s = slots[0];
     broad(s.E) + broad(s.R) + broad(s.X)
-}
-
-fn broad(x: u16) -> u32
-    ensures { λ r. ⌜ (r ≡ x) × (r < 65536) ⌝ }
-{
-    x as u32
 }
 
 fn lease_formed(p: Plan, base: Base, lease: u32) -> bool

@@ -1,149 +1,31 @@
-// Runs the cases of its input, made by tools/vectors.py from document 01 alone, through the reader, the run and the finder,
-// and compares number, index and the refused bytes with what they should be.
+// Runs the cases of its input, made by tools/vectors.py from documents 01 and 02 alone, through the reader, the run, the finder
+// and the writer, and compares number, index, the refused bytes and the bytes written with what they should be.
 //
-// A case: the file's length (4 bytes, little-endian) and bytes, the roll's length and bytes, then the refusal's number (1) and
-// index (4), whether the piece is of the roll (1), where it starts (4) and how long it is (4).
-use libc::STDIN_FILENO;
+// A case begins with its kind (1 byte); numbers are little-endian.
+// Kind 0: the file's length (4) and bytes, the roll's length and bytes, then the refusal's number (1) and index (4), whether the
+// piece is of the roll (1), where it starts (4) and how long it is (4).
+// Kind 1, a write: the plan (104), the length of the buffer lent (4), then the refusal's number (1) and index (4), and the length
+// (4) and bytes of what is written.
+mod input;
+mod reads;
+mod writes;
+
+use input::byte;
 use libc::STDOUT_FILENO;
-use rules::Verdict;
-ghost use Prim.Native.Nat.{_<_};
+use reads::next_read;
+use writes::next_write;
 
-struct Number {
-    there: bool,
-    value: usize,
-}
-
-fn four(b: &[u8; 4]) -> usize {
-    wide(b[0]) + 256 * wide(b[1]) + 65536 * wide(b[2]) + 16777216 * wide(b[3])
-}
-
-fn wide(b: u8) -> usize
-    ensures { λ r. ⌜ r < 256 ⌝ }
-{
-    b as usize
-}
-
-// The next four bytes of the input.
-fn next_number() -> Number {
-    let mut b = [0u8; 4];
-    let got = io::read_full(STDIN_FILENO, &mut b);
-    Number {
-        there: got == 4,
-        value: four(&b),
-    }
-}
-
-fn byte() -> u8 {
-    let mut b = [0u8; 1];
-    io::read_full(STDIN_FILENO, &mut b);
-    b[0]
-}
-
-// The next bytes of the input, as many as a number before them says; more than the buffer holds count as none.
-fn bytes(buffer: &mut [u8]) -> Number {
-    let n = next_number();
-    let len = n.value;
-    if !n.there {
-        return n;
-    }
-    if buffer.len() < len {
-        return Number {
-            there: false,
-            value: 0,
-        };
-    }
-    let got = io::read_full(STDIN_FILENO, &mut buffer[0..len]);
-    Number {
-        there: got == len,
-        value: len,
-    }
-}
-
-fn number_of(v: Verdict) -> usize {
-    match v {
-        Verdict::Accepted => 0,
-        Verdict::Refused { number, index: _ } => number as usize,
-    }
-}
-
-fn index_of(v: Verdict) -> usize {
-    match v {
-        Verdict::Accepted => 0,
-        Verdict::Refused { number: _, index } => index,
-    }
-}
-
-// The verdict on a file, and where that is taken on a roll from a fresh yard, with nothing run.
-fn verdict(file: &[u8], roll: &[u8]) -> Verdict {
-    let answer = planfile::read(file);
-    let v = answer.verdict;
-    let p = answer.plan;
-    let Verdict::Accepted = v else {
-        return v;
-    };
-    let start = yard::fresh(p);
-    let y = start.yard;
-    let mut none = [0u8; 1];
-    let ran = yard::run(p, y, roll, 0, &mut none);
-    ran.verdict
-}
-
-// The part that should be found, where it lies within what was lent.
-fn wanted<'a>(whole: &'a [u8], start: usize, len: usize) -> &'a [u8] {
-    if whole.len() < start {
-        return whole;
-    }
-    if whole.len() - start < len {
-        return whole;
-    }
-    let end = start + len;
-    &whole[start..end]
-}
-
-// Whether one case comes out as it should.
-fn right<'a>(file: &'a [u8], roll: &'a [u8]) -> bool {
-    let v = verdict(file, roll);
-    let number = wide(byte());
-    let index = number_or_zero();
-    let of_roll = byte() == 1;
-    let start = number_or_zero();
-    let len = number_or_zero();
-    let found = finder::find(file, roll);
-    let there = if of_roll {
-        check::same(found, wanted(roll, start, len))
-    } else {
-        check::same(found, wanted(file, start, len))
-    };
-    (number_of(v) == number) & (index_of(v) == index) & (found.len() == len) & there
-}
-
-fn number_or_zero() -> usize {
-    let n = next_number();
-    n.value
-}
-
-// The next case: 0 where there is none, 1 where it comes out right, 2 where it does not.
+// The next case: 0 where there is none, 1 where it comes out right, 2 where it does not. At the input's end the kind reads as
+// 0, and no file follows.
 fn next_case(file: &mut [u8], roll: &mut [u8]) -> u8 {
-    let a = bytes(&mut file[0..]);
-    if !a.there {
-        return 0;
+    let kind = byte();
+    if kind == 0 {
+        return next_read(&mut file[0..], &mut roll[0..]);
     }
-    let b = bytes(&mut roll[0..]);
-    if !b.there {
-        return 0;
+    if kind == 1 {
+        return next_write(&mut file[0..], &mut roll[0..]);
     }
-    let file_len = a.value;
-    let roll_len = b.value;
-    if file.len() < file_len {
-        return 0;
-    }
-    if roll.len() < roll_len {
-        return 0;
-    }
-    if right(&file[0..file_len], &roll[0..roll_len]) {
-        return 1;
-    }
-    2
+    0
 }
 
 // A proved loop has to end, and nothing says that an input does: it counts its turns down from a number that none uses up.

@@ -5,6 +5,7 @@ use crate::clocks::place_clock;
 use crate::devices::arrive;
 use crate::devices::place_of;
 use crate::devices::rise;
+use numbers::widths::broad;
 use rules::Base;
 use rules::Down;
 use rules::Letter;
@@ -14,7 +15,7 @@ use rules::Terms;
 use rules::Yard;
 ghost use mathlib.Core.Path.{_≡_};
 ghost use mathlib.Core.Bool.{cond};
-ghost use Prim.Native.Nat.{_≤_, _<_};
+ghost use Prim.Native.Nat.{_≤_};
 ghost use lib.ListN.{length};
 ghost use Rattle.packed.specs.Times.{slotsIn};
 ghost use Rattle.rules.specs.declared.Letter.the-variants as letters;
@@ -38,12 +39,6 @@ fn heard(lost: bool, letter: Letter) -> Letter
 pub(crate) struct Stepped {
     pub yard: Yard,
     pub down: Down,
-}
-
-fn broad(x: u16) -> u32
-    ensures { λ r. ⌜ (r ≡ x) × (r < 65536) ⌝ }
-{
-    x as u32
 }
 
 pub(crate) fn terms_of(p: Plan) -> Terms

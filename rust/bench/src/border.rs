@@ -129,3 +129,10 @@ pub fn read(file: &[u8], plan: &mut [u8]) -> Verdict {
     }
     verdict
 }
+
+pub fn write(plan: &[u8], file: &mut [u8]) -> (Verdict, usize) {
+    match plan.try_into() {
+        Ok(bytes) => plain::write(&plan_of(bytes), file),
+        Err(_) => (WRONG_LENGTH, 0),
+    }
+}

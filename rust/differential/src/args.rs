@@ -11,7 +11,8 @@ Compares every call of the library with the model: number, index, every answered
 buffer, with guard bytes around each. Prints how often each refusal and kind of answer came up. Exit 1 for a difference
 (`differs: KIND SEED`, the first by number) and for an expected number or kind that never came up.
 
-  --cases N    how many cases; 12,000,000 if not given. A case is one call, or one whole chain or watched roll.
+  --cases N    how many cases; 15,000,000 if not given. A case is one call, both ways between plan and file, or one whole
+               chain or watched roll.
   --seed S     other seeds give other cases; 1 if not given
   --threads T  2 if not given; the cases and the first difference do not depend on it
   --replay     runs one case and prints its input and both answers; exit 1 if they differ
@@ -25,7 +26,7 @@ pub enum Command {
 }
 
 pub fn parse(mut words: impl Iterator<Item = String>) -> Result<Command, String> {
-    let mut asked = Asked { cases: 12_000_000, seed: 1, threads: 2, spoil: None };
+    let mut asked = Asked { cases: 15_000_000, seed: 1, threads: 2, spoil: None };
     let mut replay = None;
     while let Some(word) = words.next() {
         match word.as_str() {

@@ -12,6 +12,7 @@ pub enum Group {
     Tick,
     Run,
     Read,
+    Write,
     List,
     Cases,
     Down,
@@ -19,6 +20,8 @@ pub enum Group {
     Place,
     Letter,
     Piece,
+    Room,
+    Short,
     Header,
     Devices,
     State,
@@ -30,16 +33,18 @@ pub enum Group {
 use Group::*;
 
 /// The calls that answer a refusal.
-pub const REFUSING: [Group; 6] = [Check, Fresh, Tick, Run, Read, List];
+pub const REFUSING: [Group; 7] = [Check, Fresh, Tick, Run, Read, Write, List];
 
 /// The groups of kinds of answers and inputs, with the name of each cell; every named cell must be hit.
-pub const KINDS: [(Group, &str, &[&str]); 12] = [
+pub const KINDS: [(Group, &str, &[&str]); 14] = [
     (Cases, "cases", &crate::kinds::NAMES),
     (Down, "down letter sent", &["none", "LeaseReq", "Grant", "Cancel", "Abort"]),
     (Base, "base in accepted ends", &["Fall-Back", "Lease", "Cancel", "Abort"]),
     (Place, "place", &["Fall-Back", "Requesting", "Entering", "Running", "Exiting 1", "Exiting 2"]),
     (Letter, "letter that waits", &["none", "Approve", "Deny"]),
     (Piece, "piece found", &["trailer", "short file", "body", "leftover", "record", "empty"]),
+    (Room, "room lent for a file", &crate::trials::write::ROOMS),
+    (Short, "refused with 20, by N", &["2", "3", "4", "5", "6", "7", "8"]),
     (Header, "header", &["written", "above 8 devices", "no room"]),
     (Devices, "devices of accepted plans", &["2", "3", "4", "5", "6", "7", "8"]),
     (State, "state lent", &["fresh", "in use", "not well formed", "malformed bytes"]),
@@ -56,6 +61,7 @@ pub fn expected(call: Group) -> Vec<usize> {
         Run => (0..=13).collect(),
         // A file's N is that of its length, so that 1 cannot come.
         Read => [0].into_iter().chain(2..=9).chain(14..=19).collect(),
+        Write => (0..=9).chain([20]).collect(),
         _ => (0..=12).collect(),
     };
     numbers.push(27);

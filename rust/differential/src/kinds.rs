@@ -1,6 +1,6 @@
 //! The kinds of case, and which of them the case with a given number is.
 
-use crate::trials::{chain, file, plan, run, sizes, text, tick, watch, Trial};
+use crate::trials::{both_ways, chain, file, plan, run, sizes, text, tick, watch, write, Trial};
 
 #[derive(Clone, Copy, PartialEq, Eq, Debug)]
 pub enum Kind {
@@ -9,6 +9,8 @@ pub enum Kind {
     Tick,
     Run,
     Read,
+    Write,
+    BothWays,
     Find,
     Header,
     List,
@@ -17,16 +19,34 @@ pub enum Kind {
     Watch,
 }
 
-pub const NAMES: [&str; 11] =
-    ["check", "fresh", "tick", "run", "read", "find", "header", "list", "sizes", "chain", "watch"];
+pub const NAMES: [&str; 13] = [
+    "check",
+    "fresh",
+    "tick",
+    "run",
+    "read",
+    "write",
+    "both-ways",
+    "find",
+    "header",
+    "list",
+    "sizes",
+    "chain",
+    "watch",
+];
 
-/// How many of 256 cases are of each kind. A watched roll has hundreds of ticks, so that few of them are many.
-const SHARES: [(Kind, u64); 11] = [
+/// The shares of all kinds together.
+const ROUND: u64 = 320;
+
+/// How many of a round's cases are of each kind. A watched roll has hundreds of ticks, so that few of them are many.
+const SHARES: [(Kind, u64); 13] = [
     (Kind::Check, 40),
     (Kind::Fresh, 16),
     (Kind::Tick, 64),
     (Kind::Run, 40),
     (Kind::Read, 24),
+    (Kind::Write, 40),
+    (Kind::BothWays, 24),
     (Kind::Find, 24),
     (Kind::Header, 8),
     (Kind::List, 20),
@@ -38,7 +58,7 @@ const SHARES: [(Kind, u64); 11] = [
 impl Kind {
     /// The kind of the case with this number; kinds are mixed, so that a short run has all of them.
     pub fn of_case(number: u64) -> Kind {
-        let mut left = number.wrapping_mul(167) % 256;
+        let mut left = number % ROUND * 167 % ROUND;
         for (kind, share) in SHARES {
             if left < share {
                 return kind;
@@ -64,6 +84,8 @@ impl Kind {
             Kind::Tick => Box::new(tick::Tick::of(seed)),
             Kind::Run => Box::new(run::Run::of(seed)),
             Kind::Read => Box::new(file::Read::of(seed)),
+            Kind::Write => Box::new(write::Write::of(seed)),
+            Kind::BothWays => Box::new(both_ways::BothWays::of(seed)),
             Kind::Find => Box::new(file::Find::of(seed)),
             Kind::Header => Box::new(text::Header::of(seed)),
             Kind::List => Box::new(text::List::of(seed)),

@@ -21,7 +21,7 @@ fn refusals(counts: &Counts) {
     print!("{:>6}", "number");
     REFUSING.iter().for_each(|call| print!(" {:>10}", format!("{call:?}").to_lowercase()));
     println!();
-    for number in (0..=19).chain([27]) {
+    for number in (0..=20).chain([27]) {
         print!("{number:>6}");
         for call in REFUSING {
             let count = counts.of(call, number);

@@ -2,6 +2,22 @@
 
 use std::process::{Command, Output};
 
+const KINDS: [&str; 13] = [
+    "check",
+    "fresh",
+    "tick",
+    "run",
+    "read",
+    "write",
+    "both-ways",
+    "find",
+    "header",
+    "list",
+    "sizes",
+    "chain",
+    "watch",
+];
+
 fn differential(args: &[&str]) -> Output {
     Command::new(env!("CARGO_BIN_EXE_differential")).args(args).output().expect("the program runs")
 }
@@ -22,14 +38,27 @@ fn differs(output: &Output) -> Option<(String, String)> {
 fn a_flipped_bit_is_found_in_every_kind() {
     let mut kinds = std::collections::BTreeSet::new();
     // The case with this number is the first that is spoiled, so that it must be the one that is reported.
-    for every in 1..=256 {
-        let output = differential(&["--cases", "256", "--spoil", &every.to_string()]);
+    for every in 1..=320 {
+        let output = differential(&["--cases", "320", "--spoil", &every.to_string()]);
         assert_eq!(output.status.code(), Some(1), "{every}");
         let (kind, seed) = differs(&output).expect("a difference is reported");
         assert_eq!(seed.parse::<u64>().unwrap(), (1u64 << 40) ^ (every - 1));
         kinds.insert(kind);
     }
-    assert_eq!(kinds.len(), 11, "{kinds:?}");
+    assert!(KINDS.iter().all(|kind| kinds.contains(*kind)) && kinds.len() == KINDS.len(), "{kinds:?}");
+}
+
+#[test]
+fn every_kind_is_replayed() {
+    for (kind, seed) in KINDS.iter().flat_map(|kind| ["5", "6", "7"].map(|seed| (*kind, seed))) {
+        let (spoiled, unspoiled) = (&["--replay", kind, seed, "--spoil", "1"], &["--replay", kind, seed]);
+        let output = differential(spoiled);
+        assert_eq!(output.status.code(), Some(1), "{kind} {seed}");
+        assert_eq!(differs(&output), Some((kind.to_string(), seed.to_string())));
+        let output = differential(unspoiled);
+        assert_eq!(output.status.code(), Some(0), "{kind} {seed}");
+        assert!(text(&output).contains(&format!("agrees: {kind} {seed}")));
+    }
 }
 
 #[test]
@@ -54,7 +83,8 @@ fn the_difference_is_replayed() {
 fn a_number_that_never_comes_is_missing() {
     let few = differential(&["--cases", "100"]);
     assert_eq!(few.status.code(), Some(1));
-    assert!(text(&few).contains("missing: "));
+    assert!(text(&few).contains("missing: Write never answered "));
+    assert!(text(&few).contains("missing: refused with 20, by N: never "));
     assert_eq!(differs(&few), None);
 }
 

@@ -58,6 +58,8 @@ fn on(name: &str, plan: &Plan) {
     calls(&format!("{name} plain::check"), || plain::check(black_box(plan)));
     calls(&format!("{name} read"), || model::read(black_box(&file)));
     calls(&format!("{name} plain::read"), || plain::read(black_box(&file)));
+    calls(&format!("{name} write"), || model::write(black_box(plan), black_box(&mut [0; 114])));
+    calls(&format!("{name} plain::write"), || plain::write(black_box(plan), black_box(&mut [0; 114])));
 }
 
 /// The laser settings of document 000, in tenths.

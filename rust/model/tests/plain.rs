@@ -2,7 +2,7 @@
 
 use model::bytes::{plan_from_bytes, plan_to_bytes, yard_from_bytes};
 use model::gen::{self, Rng};
-use model::{check, listing, plain, read, run};
+use model::{check, listing, plain, read, run, write};
 
 #[test]
 fn check_is_the_same() {
@@ -33,6 +33,16 @@ fn read_is_the_same() {
     for seed in 0..200_000 {
         let file = gen::file_case(seed).file;
         assert_eq!(plain::read(&file), read(&file), "seed {seed}");
+    }
+}
+
+#[test]
+fn write_is_the_same() {
+    for seed in 0..400_000 {
+        let case = gen::write_case(seed);
+        let (mut one, mut two) = (vec![0xA5; case.room], vec![0xA5; case.room]);
+        assert_eq!(plain::write(&case.plan, &mut two), write(&case.plan, &mut one), "seed {seed}");
+        assert_eq!(one, two, "seed {seed}");
     }
 }
 
@@ -96,6 +106,7 @@ fn raw_bytes_are_taken() {
         };
         let record = model::Record::from_bytes(std::array::from_fn(|_| rng.byte()));
         model::tick(&plan, &yard, record);
+        assert_eq!(model::write(&plan, &mut [0; 114]), plain::write(&plan, &mut [0; 114]));
         model::well_formed(&plan, &yard);
         listing::line(rng.draw(), &plan, &yard, model::Down::Grant(200), true);
         let mut now = yard;

@@ -2,7 +2,7 @@
 
 use model::bytes::{yard_from_bytes, yard_to_bytes};
 use model::gen::{self, Rng};
-use model::{check, listing, read, run, tick, well_formed, Verdict, Yard};
+use model::{check, listing, read, run, tick, well_formed, write, Verdict, Yard};
 
 const CASES: u64 = 100_000;
 
@@ -66,6 +66,14 @@ fn list_numbers() {
 #[test]
 fn read_numbers() {
     tally("read", &[0, 2, 3, 4, 5, 6, 7, 8, 9, 14, 15, 16, 17, 18, 19], |seed| read(&gen::file_case(seed).file).0);
+}
+
+#[test]
+fn write_numbers() {
+    tally("write", &[0, 1, 2, 3, 4, 5, 6, 7, 8, 9, 20], |seed| {
+        let case = gen::write_case(seed);
+        write(&case.plan, &mut vec![0; case.room]).0
+    });
 }
 
 /// For a taken plan, what the program finds in the roll.

@@ -1,10 +1,10 @@
 //! "Worked yards" of document 01, sentence by sentence.
 
 mod common;
-use common::{but, lines, plan_p, roll_of, verdict, CALM};
+use common::{but, laser, lines, plan_p, roll_of, verdict, CALM};
 use model::gen::files::file_of;
 use model::listing::rehearse;
-use model::{check, Plan, Slot, Verdict, Yard};
+use model::{check, Plan, Verdict, Yard};
 
 #[test]
 fn verdicts_on_plan_p() {
@@ -31,13 +31,6 @@ fn verdicts_on_plan_p() {
         assert_eq!(model::plain::check(&plan), expected, "{name}, plain");
     }
     assert_eq!(p.ls(), 10);
-}
-
-fn laser() -> Plan {
-    let mut plan = Plan { n: 2, w: 30, b: 130, q: 50, ..Plan::default() };
-    plan.slots[0] = Slot { f: 1, e: 30, r: 350, x: 60, g: 30, s: 15 };
-    plan.slots[1] = Slot { f: 1, e: 100, r: 200, x: 15, g: 0, s: 0 };
-    plan
 }
 
 #[test]

@@ -1,7 +1,7 @@
-//! The eight calls of `include/wilatkhun.h` over slices, as they are: any bytes of any length may be lent.
+//! The nine calls of `include/wilatkhun.h` over slices, as they are: any bytes of any length may be lent.
 //!
-//! A call that refuses changes no byte of a lent buffer, and answers 0 ticks, 0 bytes of text and no letter. Refusal 27
-//! (a plan of other than 104 bytes, or a yard of other than 40) is tried before all others.
+//! A call that refuses changes no byte of a lent buffer, and answers 0 ticks, 0 bytes of text or file and no letter.
+//! Refusal 27 (a plan of other than 104 bytes, or a yard of other than 40) is tried before all others.
 
 use crate::ffi;
 use crate::refusal::Refusal;
@@ -10,6 +10,8 @@ use crate::refusal::Refusal;
 pub const PLAN: usize = 104;
 /// The bytes of a yard.
 pub const YARD: usize = 40;
+/// The most bytes that [`write`] writes: 18 + 12 × 8.
+pub const FILE: usize = 114;
 /// A header or line is begun only with this much room left.
 pub const ROOM: usize = 64;
 
@@ -44,6 +46,13 @@ pub struct Ticked {
 pub struct Ran {
     pub verdict: Verdict,
     pub ticks: usize,
+}
+
+/// The answer of [`write`]: how many bytes the file has.
+#[derive(Clone, Copy, PartialEq, Eq, Debug)]
+pub struct Written {
+    pub verdict: Verdict,
+    pub length: usize,
 }
 
 /// The answer of [`find`]: `length` bytes from `start`, of the file for part 0 and of the roll for part 1.
@@ -91,6 +100,13 @@ pub fn run(plan: &[u8], yard: &mut [u8], roll: &[u8], budget: usize, engaged: &m
 pub fn read(file: &[u8], plan: &mut [u8]) -> Verdict {
     let (number, index) = ffi::read(file, plan);
     Verdict { number, index }
+}
+
+/// Writes a plan as a plan file without notes into the front of `file`: 18 + 12 × N bytes, later ones keep their value.
+/// [`read`] gives the plan back. Refused with 27, 1 to 9, then 20 with fewer bytes than that.
+pub fn write(plan: &[u8], file: &mut [u8]) -> Written {
+    let (number, index, length) = ffi::write(plan, file);
+    Written { verdict: Verdict { number, index }, length }
 }
 
 /// Of a plan file and a roll, the refused piece of whichever is at fault; else the empty piece at the roll's end.

@@ -39,6 +39,14 @@ extern "C" {
         index: *mut usize,
     ) -> u8;
     fn wilatkhun_read(file: *const u8, file_len: usize, plan: *mut u8, plan_len: usize, index: *mut usize) -> u8;
+    fn wilatkhun_write(
+        plan: *const u8,
+        plan_len: usize,
+        file: *mut u8,
+        file_len: usize,
+        length: *mut usize,
+        index: *mut usize,
+    ) -> u8;
     fn wilatkhun_find(
         file: *const u8,
         file_len: usize,
@@ -133,6 +141,16 @@ pub fn read(file: &[u8], plan: &mut [u8]) -> (u8, usize) {
     // SAFETY: slices with their lengths; `plan` is a `&mut`, so it overlaps neither `file` nor our own `index`.
     let number = unsafe { wilatkhun_read(file.as_ptr(), file.len(), plan.as_mut_ptr(), plan.len(), &mut index) };
     (number, index)
+}
+
+/// Number, index and bytes written.
+pub fn write(plan: &[u8], file: &mut [u8]) -> (u8, usize, usize) {
+    let (mut index, mut length) = (UNWRITTEN, UNWRITTEN);
+    // SAFETY: slices with their lengths; `file` is a `&mut`, so it overlaps neither `plan` nor the two numbers, which are
+    // our own and apart.
+    let number =
+        unsafe { wilatkhun_write(plan.as_ptr(), plan.len(), file.as_mut_ptr(), file.len(), &mut length, &mut index) };
+    (number, index, length)
 }
 
 /// Which part (0 file, 1 roll), where the piece starts and how long it is.

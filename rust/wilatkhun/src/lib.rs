@@ -1,6 +1,6 @@
 //! Wilatkhun: checks the plans of mower yards and moves a yard tick by tick, by a library that is proved.
 //!
-//! [`calls`] has the library's eight calls over slices, exactly as `include/wilatkhun.h` describes them. The rest is a
+//! [`calls`] has the library's nine calls over slices, exactly as `include/wilatkhun.h` describes them. The rest is a
 //! small layer of types on top: a [`Plan`], a [`Yard`] that moves under it, and a [`Refusal`] that says what is wrong.
 //! No call panics, allocates or keeps anything; one that refuses changes nothing that was lent to it.
 //!
@@ -17,6 +17,6 @@ mod refusal;
 mod yard;
 
 pub use listing::listing;
-pub use plan::{check, find, read_file, Plan, Slot};
+pub use plan::{check, find, read_file, write_file, Plan, Slot};
 pub use refusal::Refusal;
 pub use yard::{Base, Device, Down, Letter, Place, Record, Yard};

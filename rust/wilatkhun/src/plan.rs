@@ -62,6 +62,15 @@ pub fn read_file(file: &[u8]) -> Result<Plan, Refusal> {
     Ok(Plan::from_bytes(&bytes))
 }
 
+/// Writes the plan as a plan file without notes into the front of `file` and answers how many bytes that is, 18 + 12 × N;
+/// [`calls::FILE`] are enough for any plan, and later bytes keep their value. [`read_file`] of them gives the plan back.
+/// Refused with 1 to 9 for the plan, then with 20 for too few bytes; `file` then stays as it is.
+pub fn write_file(plan: &Plan, file: &mut [u8]) -> Result<usize, Refusal> {
+    let answer = calls::write(&plan.to_bytes(), file);
+    answer.verdict.taken()?;
+    Ok(answer.length)
+}
+
 /// The refused piece of a plan file and a roll, for a crew to look at: the file's last ten bytes for 14 to 19 (all of a
 /// shorter file), its body for 2 to 9, the bytes left over for 12, the four bytes of the record for 10. With nothing at
 /// fault, the empty piece at the roll's end. The roll is looked at only if the file has a plan.

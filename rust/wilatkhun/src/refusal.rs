@@ -7,7 +7,7 @@ use std::fmt;
 #[derive(Clone, Copy, PartialEq, Eq, Hash, Debug)]
 pub struct Refusal {
     /// 1 to 9 the plan, 10 a record, 11 the yard, 12 the roll's length, 13 the engaged bytes, 14 to 19 the plan file,
-    /// 27 a plan or yard of the wrong length.
+    /// 20 the bytes lent for one, 27 a plan or yard of the wrong length.
     pub number: u8,
     /// The device, slot or record at fault, from 1; 0 where there is none to name.
     pub index: usize,
@@ -19,7 +19,7 @@ impl fmt::Display for Refusal {
         match self.number {
             1..=9 => self.plan(f),
             10..=13 => self.run(f),
-            14..=19 => f.write_str(file(self.number)),
+            14..=20 => f.write_str(file(self.number)),
             27 => f.write_str("a plan takes 104 bytes and a yard 40; other lengths were lent"),
             _ => f.write_str("no refusal has this number"),
         }
@@ -64,6 +64,7 @@ fn file(number: u8) -> &'static str {
         16 => "the plan file's version is not 1",
         17 => "the plan file's body has a length that no number of devices gives",
         18 => "the plan file's body does not lie within the file, before its last ten bytes",
-        _ => "the plan file's body and its last ten bytes are of different numbers of devices",
+        19 => "the plan file's body and its last ten bytes are of different numbers of devices",
+        _ => "fewer bytes were lent for the plan file than it takes: 18, and 12 for each device",
     }
 }

@@ -2,8 +2,8 @@
 
 mod common;
 
-use common::{but, file_p, first_roll, plan_p, CALM, FIRST_LISTING, REQUEST};
-use wilatkhun::calls::{self, Listed, Piece, Ran, Ticked, Verdict, PLAN, YARD};
+use common::{but, first_roll, laser, plan_p, CALM, FILE_LASER, FILE_P, FIRST_LISTING, REQUEST};
+use wilatkhun::calls::{self, Listed, Piece, Ran, Ticked, Verdict, Written, FILE, PLAN, YARD};
 
 const TAKEN: Verdict = Verdict { number: 0, index: 0 };
 const WRONG_LENGTH: Verdict = Verdict { number: 27, index: 0 };
@@ -50,13 +50,43 @@ fn run_does_the_smaller_of_budget_and_records() {
 #[test]
 fn read_gives_the_plan() {
     let mut plan = [0xA5; PLAN];
-    assert_eq!(calls::read(&file_p(), &mut plan), TAKEN);
+    assert_eq!(calls::read(&FILE_P, &mut plan), TAKEN);
     assert_eq!(plan, plan_p().to_bytes());
 }
 
 #[test]
+fn write_gives_the_file() {
+    for (plan, by_hand) in [(plan_p(), FILE_P), (laser(), FILE_LASER)] {
+        let (mut just, mut more) = ([0xA5; 42], [0xA5; FILE]);
+        assert_eq!(calls::write(&plan.to_bytes(), &mut just), Written { verdict: TAKEN, length: 42 });
+        assert_eq!(calls::write(&plan.to_bytes(), &mut more), Written { verdict: TAKEN, length: 42 });
+        assert_eq!((just, &more[..42]), (by_hand, &by_hand[..]));
+        assert_eq!(more[42..], [0xA5; FILE - 42]);
+        // And back.
+        let mut back = [0xA5; PLAN];
+        assert_eq!(calls::read(&just, &mut back), TAKEN);
+        assert_eq!(back, plan.to_bytes());
+    }
+}
+
+#[test]
+fn a_refused_write_leaves_every_byte() {
+    let nothing = |number, index| Written { verdict: refused(number, index), length: 0 };
+    let (good, bad) = (plan_p().to_bytes(), but(|p| p.slots[0].x = 1).to_bytes());
+    let mut file = [0xA5; 42];
+    assert_eq!(calls::write(&good, &mut file[..41]), nothing(20, 0));
+    assert_eq!(calls::write(&good, &mut []), nothing(20, 0));
+    // The plan's own number comes first, with room and without.
+    assert_eq!(calls::write(&bad, &mut file), nothing(9, 1));
+    assert_eq!(calls::write(&bad, &mut file[..41]), nothing(9, 1));
+    assert_eq!(calls::write(&bad, &mut []), nothing(9, 1));
+    assert_eq!(calls::write(&but(|p| p.n = 9).to_bytes(), &mut file), nothing(1, 0));
+    assert_eq!(file, [0xA5; 42]);
+}
+
+#[test]
 fn find_points_into_what_is_at_fault() {
-    let (file, roll) = (file_p(), first_roll());
+    let (file, roll) = (FILE_P, first_roll());
     assert_eq!(calls::find(&file, &roll), Piece { part: 1, start: 40, length: 0 });
     assert_eq!(calls::find(&file, &roll[..39]), Piece { part: 1, start: 36, length: 3 });
     assert_eq!(calls::find(&file[1..], &roll), Piece { part: 0, start: 31, length: 10 });
@@ -89,7 +119,7 @@ fn a_refused_call_leaves_every_byte() {
     assert_eq!(calls::run(&good, &mut yard, &first_roll(), 10, &mut lent), Ran { verdict: refused(11, 0), ticks: 0 });
     let nothing = |verdict| Listed { verdict, ticks: 0, length: 0 };
     assert_eq!(calls::list(&good, &mut yard, &first_roll(), 0, &mut lent), nothing(refused(11, 0)));
-    assert_eq!(calls::read(&file_p()[1..], &mut plan), refused(14, 0));
+    assert_eq!(calls::read(&FILE_P[1..], &mut plan), refused(14, 0));
     assert_eq!((yard, lent, plan), ([0xA5; YARD], [0xA5; 100], [0xA5; PLAN]));
     refused_after_the_state(&good);
 }
@@ -122,7 +152,11 @@ fn wrong_lengths_are_27_before_all_else() {
     }
     for length in [0, 1, 103, 105, 208] {
         assert_eq!(calls::check(&plan[..length]), WRONG_LENGTH);
-        assert_eq!(calls::read(&file_p(), &mut lent[..length]), WRONG_LENGTH);
+        assert_eq!(calls::read(&FILE_P, &mut lent[..length]), WRONG_LENGTH);
+        for room in [0, 41, 42, PLAN] {
+            let written = calls::write(&plan[..length], &mut lent[..room]);
+            assert_eq!(written, Written { verdict: WRONG_LENGTH, length: 0 });
+        }
     }
     assert_eq!((yard, lent), ([0xA5; 2 * YARD], [0xA5; 2 * PLAN]));
 }

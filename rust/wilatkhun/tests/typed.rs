@@ -2,8 +2,9 @@
 
 mod common;
 
-use common::{but, file_p, first_roll, plan_p, FIRST_LISTING};
-use wilatkhun::{check, find, listing, read_file, Base, Device, Down, Letter, Place, Plan, Record, Refusal, Yard};
+use common::{but, first_roll, laser, plan_p, FILE_LASER, FILE_P, FIRST_LISTING};
+use wilatkhun::{check, find, listing, read_file, write_file};
+use wilatkhun::{Base, Device, Down, Letter, Place, Plan, Record, Refusal, Yard};
 
 const REQUEST: Record = Record { command: 1, flags: 1, willing: 1, lost: 0 };
 
@@ -59,12 +60,26 @@ fn a_run_and_its_refusals() {
 
 #[test]
 fn files_are_read_and_pieces_found() {
-    let (file, roll) = (file_p(), first_roll());
+    let (file, roll) = (FILE_P, first_roll());
     assert_eq!(read_file(&file), Ok(plan_p()));
     assert_eq!(read_file(&file[1..]), refused(14, 0));
     assert_eq!(find(&file[1..], &roll), &file[32..]);
     assert_eq!(find(&file, &roll[..38]), &roll[36..38]);
     assert!(find(&file, &roll).is_empty());
+}
+
+#[test]
+fn plans_are_written_and_read_back() {
+    for (plan, by_hand) in [(plan_p(), FILE_P), (laser(), FILE_LASER)] {
+        let mut file = [0xA5; 50];
+        assert_eq!(write_file(&plan, &mut file), Ok(42));
+        assert_eq!((&file[..42], &file[42..]), (&by_hand[..], &[0xA5; 8][..]));
+        assert_eq!(read_file(&file[..42]), Ok(plan));
+    }
+    let mut file = [0xA5; 42];
+    assert_eq!(write_file(&plan_p(), &mut file[..41]), refused(20, 0));
+    assert_eq!(write_file(&but(|p| p.slots[0].r = 6), &mut file[..41]), refused(8, 1));
+    assert_eq!(file, [0xA5; 42]);
 }
 
 #[test]
@@ -85,10 +100,10 @@ fn refusals_have_words() {
     assert_eq!(said(8, 1), "refused 8 1: device 1 may exit before device 2 has left");
     assert_eq!(said(10, 7), "refused 10 7: record 7 has a command or a bit that means nothing");
     assert_ne!(said(2, 0), said(2, 1));
-    for number in (1..=19).chain([27]) {
+    for number in (1..=20).chain([27]) {
         assert!(!said(number, 0).contains("no refusal has"), "{number}");
     }
-    assert!(said(20, 0).contains("no refusal has this number"));
+    assert!(said(21, 0).contains("no refusal has this number"));
     let error: Box<dyn std::error::Error> = Box::new(Refusal { number: 14, index: 0 });
     assert!(error.to_string().starts_with("refused 14 0: "));
 }

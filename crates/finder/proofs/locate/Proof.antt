@@ -20,7 +20,7 @@ roll-piece-requires c κs = search needs
 returns : tie.Need-returns
 unfolding piece
 returns c =
-    let read = c .before .before .before .before .read .ensures in
+    let read = c .before .before .before .before .read .ensures .0 in
     let taken = sym (ap (λ (a : ReadAnswer). a .verdict) read) ∙ c .before .enum-told .given .1 in
     rw taken (rw read at (c .roll-piece .ensures))
 
@@ -30,7 +30,7 @@ file-piece-requires c κs = search needs
 returns-2 : tie.Need-returns-2
 unfolding piece
 returns-2 c =
-    let read = c .before .before .before .before .before .read .ensures in
+    let read = c .before .before .before .before .before .read .ensures .0 in
     let refused = sym (ap (λ (a : ReadAnswer). a .verdict) read) ∙ c .before .before .verdict .given .1 in
     rw refused (c .file-piece .ensures)
 

@@ -11,16 +11,16 @@ product-requires : tie.Need-product-requires
 product-requires c κs = search needs
 
 -- src/lib.rt:85:26
-wide-requires : tie.Need-wide-requires
-wide-requires c κs = search needs
+broad-requires : tie.Need-broad-requires
+broad-requires c κs = search needs
 
 -- src/lib.rt:85:38
-wide-requires-2 : tie.Need-wide-requires-2
-wide-requires-2 c κs = search needs
+broad-requires-2 : tie.Need-broad-requires-2
+broad-requires-2 c κs = search needs
 
 -- src/lib.rt:81:1
 returns : tie.Need-returns
 returns c = cc
 
 pub c3-spec : {M : Type 1} → statement M
-c3-spec = tie.close (tie.spec sub-product product-requires wide-requires wide-requires-2 returns)
+c3-spec = tie.close (tie.spec sub-product product-requires broad-requires broad-requires-2 returns)

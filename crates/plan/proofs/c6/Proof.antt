@@ -3,8 +3,8 @@ use Rattle.plan.proofs.c6.Statement.{statement}
 use Rattle.plan.proofs.c6.Tie as tie
 
 -- src/lib.rt:105:5
-wide-requires : tie.Need-wide-requires
-wide-requires c κs = search needs
+broad-requires : tie.Need-broad-requires
+broad-requires c κs = search needs
 
 -- src/lib.rt:105:15
 stay-requires : tie.Need-stay-requires
@@ -15,12 +15,12 @@ add-result : tie.Need-add-result
 add-result c = search needs
 
 -- src/lib.rt:105:28
-wide-requires-2 : tie.Need-wide-requires-2
-wide-requires-2 c κs = search needs
+broad-requires-2 : tie.Need-broad-requires-2
+broad-requires-2 c κs = search needs
 
 -- src/lib.rt:105:40
-wide-requires-3 : tie.Need-wide-requires-3
-wide-requires-3 c κs = search needs
+broad-requires-3 : tie.Need-broad-requires-3
+broad-requires-3 c κs = search needs
 
 -- src/lib.rt:105:28
 add-result-2 : tie.Need-add-result-2
@@ -34,10 +34,10 @@ pub c6-spec : {M : Type 1} → statement M
 c6-spec =
     tie.close
     (tie.spec
-    wide-requires
+    broad-requires
     stay-requires
     add-result
-    wide-requires-2
-    wide-requires-3
+    broad-requires-2
+    broad-requires-3
     add-result-2
     returns)

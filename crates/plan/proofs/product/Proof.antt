@@ -6,12 +6,12 @@ use Rattle.plan.proofs.product.Statement.{statement}
 use Rattle.plan.proofs.product.Tie as tie
 
 -- src/lib.rt:22:5
-wide-requires : tie.Need-wide-requires
-wide-requires c κs = search needs
+broad-requires : tie.Need-broad-requires
+broad-requires c κs = search needs
 
 -- src/lib.rt:22:15
-wide-requires-2 : tie.Need-wide-requires-2
-wide-requires-2 c κs = search needs
+broad-requires-2 : tie.Need-broad-requires-2
+broad-requires-2 c κs = search needs
 
 -- src/lib.rt:22:5
 mul-result : tie.Need-mul-result
@@ -22,4 +22,4 @@ returns : tie.Need-returns
 returns c = cc
 
 pub product-spec : {M : Type 1} → statement M
-product-spec = tie.close (tie.spec wide-requires wide-requires-2 mul-result returns)
+product-spec = tie.close (tie.spec broad-requires broad-requires-2 mul-result returns)

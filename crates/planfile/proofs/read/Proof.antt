@@ -1,36 +1,16 @@
-use mathlib.Core.Path.{refl, _∙_}
 use native.Mathlib.Omega.{arith}
-use Rattle.files.proofs.Files.{short-refused, trailer-refused, starts-within, ends-within, devices-fit, trailer-taken}
+use mathlib.Core.Path.{_≡_, refl, _∙_, ap}
+use Rattle.rules.proofs.Answers.{not-both}
+use Rattle.files.specs.declared.ReadAnswer.{ReadAnswer}
+use Rattle.files.specs.File.{answerOf, readAnswer}
+use Rattle.files.proofs.Files.{trailer-refused, starts-within, ends-within, devices-fit, trailer-taken}
+use Rattle.files.proofs.GivenBack.{given-back-of}
 use borrow.Author.Needs.{needs}
 use Rattle.planfile.proofs.read.Statement.{statement}
 use Rattle.planfile.proofs.read.Tie as tie
 
-refusal-requires : tie.Need-refusal-requires
-refusal-requires c κs = search needs
-
-empty-plan-requires : tie.Need-empty-plan-requires
-empty-plan-requires c κs = search needs
-
-answer-requires : tie.Need-answer-requires
-answer-requires c κs = search needs
-
-returns : tie.Need-returns
-returns c =
-    c .answer .ensures
-    ∙ rw (c .before .before .refusal .ensures, c .before .empty-plan .ensures)
-    (short-refused (c .before .before .before .before .before .args .file .now) (c .before .before .before .if1 .taken))
-
-sub-read-trailer : tie.Need-sub-read-trailer
-sub-read-trailer c = search needs
-
-part-read-trailer-start : tie.Need-part-read-trailer-start
-part-read-trailer-start c = search needs
-
-part-read-trailer-end : tie.Need-part-read-trailer-end
-part-read-trailer-end c = search needs
-
-read-trailer-requires : tie.Need-read-trailer-requires
-read-trailer-requires c κs = search needs
+trailer-of-requires : tie.Need-trailer-of-requires
+trailer-of-requires c κs = search needs
 
 judge-requires : tie.Need-judge-requires
 judge-requires c κs = search needs
@@ -41,17 +21,21 @@ enum-told c = search needs
 enum-told-2 : tie.Need-enum-told-2
 enum-told-2 c = search needs
 
-empty-plan-requires-2 : tie.Need-empty-plan-requires-2
-empty-plan-requires-2 c κs = search needs
+empty-plan-requires : tie.Need-empty-plan-requires
+empty-plan-requires c κs = search needs
 
-answer-requires-2 : tie.Need-answer-requires-2
-answer-requires-2 c κs = search needs
+answer-requires : tie.Need-answer-requires
+answer-requires c κs = search needs
 
-returns-2 : tie.Need-returns-2
-returns-2 c =
-    c .answer2 .ensures
-    ∙ rw (c .before .empty-plan2 .ensures)
-    (trailer-refused (c .before .before .before .before .before .before .before .before .before .args .file .now) (c .before .before .before .before .before .read-trailer .result) (c .before .before .before .before .judge .result) (c .before .before .before .before .before .read-trailer .ensures) (c .before .before .before .before .judge .ensures) (c .before .before .enum-told2 .given .1))
+returns : tie.Need-returns
+unfolding answerOf
+returns c =
+    let told = c .before .before .enum-told2 .given .1 in
+    let same : c .answer .result ≡ readAnswer (c .before .before .before .before .before .before .before .args .file .now) =
+    c .answer .ensures
+    ∙ rw (c .before .empty-plan .ensures)
+    (trailer-refused (c .before .before .before .before .before .before .before .args .file .now) (c .before .before .before .before .before .trailer-of .result) (c .before .before .before .before .judge .result) (c .before .before .before .before .before .trailer-of .ensures) (c .before .before .before .before .judge .ensures) told) in
+    (same, λ taken. not-both taken (ap (λ (a : ReadAnswer). a .verdict) (c .answer .ensures) ∙ told))
 
 cast-size : tie.Need-cast-size
 cast-size c = search needs
@@ -61,7 +45,7 @@ cast-back c = search needs
 
 sub-start : tie.Need-sub-start
 sub-start c =
-    omega (arith, starts-within (c .before .before .before .before .before .before .before .before .before .args .file .now) (c .before .before .before .before .before .read-trailer .result) (c .before .before .before .before .judge .result) (c .before .before .before .before .before .read-trailer .ensures) (c .before .before .before .before .judge .ensures) (c .before .before .enum-told .given .1))
+    omega (arith, starts-within (c .before .before .before .before .before .before .before .args .file .now) (c .before .before .before .before .before .trailer-of .result) (c .before .before .before .before .judge .result) (c .before .before .before .before .before .trailer-of .ensures) (c .before .before .before .before .judge .ensures) (c .before .before .enum-told .given .1))
 
 add-end : tie.Need-add-end
 add-end c = search needs
@@ -74,38 +58,33 @@ part-read-body-start c = search needs
 
 part-read-body-end : tie.Need-part-read-body-end
 part-read-body-end c =
-    omega (arith, ends-within (c .before .before .before .before .before .before .before .before .before .args .file .now) (c .before .before .before .before .before .read-trailer .result) (c .before .before .before .before .judge .result) (c .before .before .before .before .before .read-trailer .ensures) (c .before .before .before .before .judge .ensures) (c .before .before .enum-told .given .1))
+    omega (arith, ends-within (c .before .before .before .before .before .before .before .args .file .now) (c .before .before .before .before .before .trailer-of .result) (c .before .before .before .before .judge .result) (c .before .before .before .before .before .trailer-of .ensures) (c .before .before .before .before .judge .ensures) (c .before .before .enum-told .given .1))
 
 devices-for-requires : tie.Need-devices-for-requires
 devices-for-requires c κs = search needs
 
 read-body-requires : tie.Need-read-body-requires
 read-body-requires c κs =
-    devices-fit (c .before .before .before .before .before .before .before .before .before .before .before .args .file .now) (c .before .before .before .before .before .before .before .read-trailer .result) (c .before .before .before .before .before .before .judge .result) (c .before .before .before .before .before .before .before .read-trailer .ensures) (c .before .before .before .before .before .before .judge .ensures) (c .before .before .before .before .enum-told .given .1) (c .devices-for .result) (c .devices-for .ensures)
+    devices-fit (c .before .before .before .before .before .before .before .before .before .args .file .now) (c .before .before .before .before .before .before .before .trailer-of .result) (c .before .before .before .before .before .before .judge .result) (c .before .before .before .before .before .before .before .trailer-of .ensures) (c .before .before .before .before .before .before .judge .ensures) (c .before .before .before .before .enum-told .given .1) (c .devices-for .result) (c .devices-for .ensures)
 
-returns-3 : tie.Need-returns-3
-returns-3 c =
+returns-2 : tie.Need-returns-2
+returns-2 c =
+    let same : c .read-body .result ≡ readAnswer (c .before .before .before .before .before .before .before .before .before .before .args .file .now) =
     c .read-body .ensures
-    ∙ trailer-taken (c .before .before .before .before .before .before .before .before .before .before .before .before .args .file .now) (c .before .before .before .before .before .before .before .before .read-trailer .result) (c .before .before .before .before .before .before .before .judge .result) (c .before .before .before .before .before .before .before .before .read-trailer .ensures) (c .before .before .before .before .before .before .before .judge .ensures) (c .before .before .before .before .before .enum-told .given .1) (c .before .devices-for .result) (c .before .devices-for .ensures) _ refl
+    ∙ trailer-taken (c .before .before .before .before .before .before .before .before .before .before .args .file .now) (c .before .before .before .before .before .before .before .before .trailer-of .result) (c .before .before .before .before .before .before .before .judge .result) (c .before .before .before .before .before .before .before .before .trailer-of .ensures) (c .before .before .before .before .before .before .before .judge .ensures) (c .before .before .before .before .before .enum-told .given .1) (c .before .devices-for .result) (c .before .devices-for .ensures) _ refl in
+    (same, given-back-of (c .before .before .before .before .before .before .before .before .before .before .args .file .now) _ same (c .before .before .before .before .before .before .before .before .before .shared-slice-known .given))
 
 pub read-spec : {M : Type 1} → statement M
 read-spec =
     tie.close
     (tie.spec
-    refusal-requires
-    empty-plan-requires
-    answer-requires
-    returns
-    sub-read-trailer
-    part-read-trailer-start
-    part-read-trailer-end
-    read-trailer-requires
+    trailer-of-requires
     judge-requires
     enum-told
     enum-told-2
-    empty-plan-requires-2
-    answer-requires-2
-    returns-2
+    empty-plan-requires
+    answer-requires
+    returns
     cast-size
     cast-back
     sub-start
@@ -115,4 +94,4 @@ read-spec =
     part-read-body-end
     devices-for-requires
     read-body-requires
-    returns-3)
+    returns-2)

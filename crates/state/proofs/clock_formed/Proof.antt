@@ -25,11 +25,11 @@ returns c = rw (c .before .enum-told .given .1)
 
 returns-2 : tie.Need-returns-2
 unfolding clockFormed
-returns-2 c = rw (c .before .before .before .before .before .base .given .1, lt-ltb _ _ (rw (c .before .before .before .wide .ensures) at (c .before .if1 .taken)))
+returns-2 c = rw (c .before .before .before .before .before .base .given .1, lt-ltb _ _ (rw (c .before .before .before .wide .ensures .0) at (c .before .if1 .taken)))
 
 returns-3 : tie.Need-returns-3
 unfolding clockFormed
-returns-3 c = rw (c .before .before .before .before .base .given .1, le-ltb _ _ (rw (c .before .before .wide .ensures) at (c .if1 .left)))
+returns-3 c = rw (c .before .before .before .before .base .given .1, le-ltb _ _ (rw (c .before .before .wide .ensures .0) at (c .if1 .left)))
 
 returns-4 : tie.Need-returns-4
 unfolding clockFormed

@@ -18,14 +18,14 @@ letter-formed-requires c κs = search needs
 
 returns : tie.Need-returns
 unfolding deviceFormed
-returns c = rw (c .letter-formed .ensures, c .before .place-formed .ensures, le-leb _ _ (rw (c .before .before .before .before .wide .ensures) at (c .before .before .if1 .taken))) (sym (all-is _ (_ ∷ [])))
+returns c = rw (c .letter-formed .ensures, c .before .place-formed .ensures, le-leb _ _ (rw (c .before .before .before .before .wide .ensures .0) at (c .before .before .if1 .taken))) (sym (all-is _ (_ ∷ [])))
 
 is-fresh-requires : tie.Need-is-fresh-requires
 is-fresh-requires c κs = search needs
 
 returns-2 : tie.Need-returns-2
 unfolding deviceFormed
-returns-2 c = rw (c .is-fresh .ensures, lt-leb _ _ (rw (c .before .before .before .wide .ensures) at (c .before .if1 .left)))
+returns-2 c = rw (c .is-fresh .ensures, lt-leb _ _ (rw (c .before .before .before .wide .ensures .0) at (c .before .if1 .left)))
 
 pub device-formed-spec : {M : Type 1} → statement M
 device-formed-spec =

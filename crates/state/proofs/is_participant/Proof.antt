@@ -11,7 +11,7 @@ wide-requires c κs = search needs
 
 returns : tie.Need-returns
 unfolding isPair
-returns c = rw (c .before .wide .ensures) (sym (all-is _ (_ ∷ [])))
+returns c = rw (c .before .wide .ensures .0) (sym (all-is _ (_ ∷ [])))
 
 pub is-participant-spec : {M : Type 1} → statement M
 is-participant-spec = tie.close (tie.spec wide-requires returns)

@@ -36,7 +36,7 @@ returns c = rw (c .before .before .before .slot-of .ensures, c .before .enum-tol
 
 returns-2 : tie.Need-returns-2
 unfolding placeFormed
-returns-2 c = rw (c .before .before .wide .ensures, c .before .before .before .enum-told2 .given .1) (sym (all-is _ (_ ∷ [])))
+returns-2 c = rw (c .before .before .wide .ensures .0, c .before .before .before .enum-told2 .given .1) (sym (all-is _ (_ ∷ [])))
 
 returns-3 : tie.Need-returns-3
 unfolding placeFormed

@@ -34,6 +34,9 @@ pub fn all() -> Vec<(String, Make)> {
     }
     add(&mut all, "read-mixed".to_string(), plans::read_any);
     for n in [2, 8] {
+        add(&mut all, format!("write-{n}"), move || plans::write(n));
+    }
+    for n in [2, 8] {
         add(&mut all, format!("list-{n}"), move || text::list(n));
     }
     for n in [2, 8] {

@@ -1,4 +1,4 @@
-//! The plan check and the file reader, over arrays of changing plans.
+//! The plan check, the file reader and the file writer, over arrays of changing plans.
 
 use crate::border;
 use crate::contest::{Contest, Side, Unit};
@@ -6,7 +6,7 @@ use crate::yards;
 use model::bytes::PLAN;
 use model::{plain, Plan};
 use std::hint::black_box;
-use wilatkhun::calls;
+use wilatkhun::calls::{self, FILE};
 
 pub fn accepted(n: u16) -> Contest {
     from_bytes(yards::accepted(n), format!("{} accepted plans of 104 bytes", yards::MANY))
@@ -98,5 +98,36 @@ fn read(files: Vec<Vec<u8>>, note: String) -> Contest {
             })
         }),
         note,
+    }
+}
+
+/// Accepted plans, each into the same buffer, which has room for any plan's file.
+pub fn write(n: u16) -> Contest {
+    let plans = yards::accepted(n);
+    let (library_plans, plain_plans) = (plans.clone(), plans.clone());
+    Contest {
+        unit: Unit::Nanoseconds("file"),
+        items: plans.len(),
+        library: Box::new(move || {
+            let mut file = [0; FILE];
+            for plan in &library_plans {
+                black_box(calls::write(black_box(plan), black_box(&mut file)));
+            }
+        }),
+        plain: Box::new(move || {
+            let mut file = [0; FILE];
+            for plan in &plain_plans {
+                black_box(border::write(black_box(plan), black_box(&mut file)));
+            }
+        }),
+        agree: Box::new(move || {
+            plans.iter().all(|plan| {
+                let (mut one, mut two) = ([7; FILE], [7; FILE]);
+                let (library, (plain, length)) = (calls::write(plan, &mut one), border::write(plan, &mut two));
+                let said = (library.verdict.number, library.verdict.index, library.length);
+                said == (plain.number, plain.index, length) && one == two
+            })
+        }),
+        note: format!("{} accepted plans of 104 bytes", yards::MANY),
     }
 }

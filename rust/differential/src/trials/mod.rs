@@ -1,5 +1,6 @@
 //! One case of each kind: what is lent, what the library answers, what the model answers.
 
+pub mod both_ways;
 pub mod chain;
 pub mod file;
 pub mod plan;
@@ -8,6 +9,7 @@ pub mod sizes;
 pub mod text;
 pub mod tick;
 pub mod watch;
+pub mod write;
 
 use crate::answer::Answer;
 use crate::counts::{Counts, Group};

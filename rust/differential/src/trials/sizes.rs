@@ -30,7 +30,7 @@ pub const NAMES: [&str; 18] = [
     "long/-",
 ];
 
-const CALLS: [Group; 6] = [Group::Check, Group::Fresh, Group::Tick, Group::Run, Group::Read, Group::List];
+const CALLS: [Group; 7] = [Group::Check, Group::Fresh, Group::Tick, Group::Run, Group::Read, Group::Write, Group::List];
 
 pub struct Sizes {
     seed: u64,
@@ -73,7 +73,8 @@ impl Sizes {
     }
 
     fn lend(&self) -> [Lent; 4] {
-        let filled = self.case.engaged.max(64);
+        // A file's buffer may be too short as well: 27 comes before 20.
+        let filled = if self.call == Group::Write { self.case.engaged } else { self.case.engaged.max(64) };
         [
             Lent::resized(&plan_to_bytes(&self.case.plan), self.plan_length, self.seed),
             Lent::resized(&self.case.yard, self.yard_length, self.seed ^ 1),
@@ -89,6 +90,10 @@ impl Sizes {
             Group::Check => refusal(calls::check(plan.bytes())),
             Group::Fresh => refusal(calls::fresh(plan.bytes(), yard.bytes_mut())),
             Group::Read => refusal(calls::read(given.bytes(), plan.bytes_mut())),
+            Group::Write => {
+                let written = calls::write(plan.bytes(), out.bytes_mut());
+                refusal(written.verdict).with("length", written.length as u64)
+            }
             Group::Tick => {
                 let ticked = calls::tick(plan.bytes(), yard.bytes_mut(), (self.seed as u32).to_le_bytes());
                 refusal(ticked.verdict).with("down", ticked.down as u64).with("device", ticked.device as u64)
@@ -114,7 +119,7 @@ impl Sizes {
 
 /// The calls that take a plan and no yard.
 fn alone(call: Group) -> bool {
-    matches!(call, Group::Check | Group::Read)
+    matches!(call, Group::Check | Group::Read | Group::Write)
 }
 
 fn refusal(verdict: calls::Verdict) -> Answer {
@@ -133,7 +138,7 @@ impl Trial for Sizes {
             ("call", format!("{:?}", self.call)),
             shown("plan", plan.bytes()),
             shown("yard", yard.bytes()),
-            shown("engaged or text", out.bytes()),
+            shown("engaged, file or text", out.bytes()),
             shown("roll or file", given.bytes()),
         ]
     }
@@ -148,6 +153,7 @@ impl Trial for Sizes {
         let refused = Answer::refusal(27, 0);
         let answer = match self.call {
             Group::Tick => refused.with("down", 0).with("device", 0),
+            Group::Write => refused.with("length", 0),
             Group::Run => refused.with("ticks", 0),
             Group::List => refused.with("ticks", 0).with("length", 0),
             _ => refused,

@@ -123,3 +123,21 @@ pub fn watch_case(seed: u64) -> WatchCase {
     let roll = rolls::valid(rng, &plan, ticks);
     WatchCase { plan, roll }
 }
+
+/// `room` is the length of the buffer to lend for the file.
+#[derive(Clone, Debug, PartialEq, Eq)]
+pub struct WriteCase {
+    pub plan: Plan,
+    pub room: usize,
+}
+
+/// Room from none to more than the plan's file takes, mostly within a byte of it; also where the plan is refused, since
+/// its number comes first.
+pub fn write_case(seed: u64) -> WriteCase {
+    let rng = &mut start(7, seed);
+    let plan = if rng.chance(1, 2) { plans::accepted(rng) } else { plans::any(rng) };
+    let whole = 18 + 12 * plan.devices();
+    let (short, long) = (rng.below(whole), rng.within(whole + 2, 2 * whole));
+    let room = rng.pick(&[whole - 1, whole, whole, whole + 1, short, long, whole - 12, 0]);
+    WriteCase { plan, room }
+}

@@ -8,7 +8,8 @@ pub mod rolls;
 pub mod states;
 
 pub use cases::{
-    check_case, file_case, list_case, run_case, tick_case, watch_case, FileCase, ListCase, RunCase, TickCase, WatchCase,
+    check_case, file_case, list_case, run_case, tick_case, watch_case, write_case, FileCase, ListCase, RunCase,
+    TickCase, WatchCase, WriteCase,
 };
 
 /// A splitmix64 generator.

@@ -46,3 +46,31 @@ fn plan_of(body: &[u8]) -> Plan {
     }
     plan
 }
+
+/// Writes a plan file without notes into the front of `file`, and answers how long it is.
+pub fn write(plan: &Plan, file: &mut [u8]) -> (Verdict, usize) {
+    let verdict = check(plan);
+    if verdict.number != 0 {
+        return (verdict, 0);
+    }
+    let body_length = 8 + 12 * plan.n as usize;
+    let length = body_length + 10;
+    let Some(file) = file.get_mut(..length) else {
+        return (Verdict { number: 20, index: 0 }, 0);
+    };
+    let (body, trailer) = file.split_at_mut(body_length);
+    let (head, rest) = body.split_at_mut(8);
+    put(head, [plan.n, plan.w, plan.b, plan.q]);
+    for (bytes, d) in rest.chunks_exact_mut(12).zip(&plan.slots) {
+        put(bytes, [d.f, d.e, d.r, d.x, d.g, d.s]);
+    }
+    // The distance's high half is 0; the mark is 59 50 as bytes.
+    put(trailer, [body_length as u16, 1, length as u16, 0, 0x5059]);
+    (verdict, length)
+}
+
+fn put<const WORDS: usize>(bytes: &mut [u8], words: [u16; WORDS]) {
+    for (pair, word) in bytes.chunks_exact_mut(2).zip(words) {
+        pair.copy_from_slice(&word.to_le_bytes());
+    }
+}

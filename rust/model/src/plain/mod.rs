@@ -8,7 +8,7 @@ mod state;
 mod step;
 
 pub use check::check;
-pub use file::read;
+pub use file::{read, write};
 pub use list::{header, list};
 
 use crate::types::{Plan, Verdict, Yard};

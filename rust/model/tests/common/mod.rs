@@ -1,4 +1,4 @@
-//! Plan P of document 01 and the records of its rolls.
+//! Plan P and the laser's of document 01, and the records of P's rolls.
 #![allow(dead_code)]
 
 use model::{Down, Plan, Record, Slot, Verdict, Yard};
@@ -10,6 +10,14 @@ pub fn plan_p() -> Plan {
     let mut plan = Plan { n: 2, w: 1, b: 1, q: 3, ..Plan::default() };
     plan.slots[0] = Slot { f: 1, e: 1, r: 7, x: 2, g: 1, s: 1 };
     plan.slots[1] = Slot { f: 1, e: 3, r: 2, x: 1, g: 0, s: 0 };
+    plan
+}
+
+/// The laser settings of document 000, in tenths.
+pub fn laser() -> Plan {
+    let mut plan = Plan { n: 2, w: 30, b: 130, q: 50, ..Plan::default() };
+    plan.slots[0] = Slot { f: 1, e: 30, r: 350, x: 60, g: 30, s: 15 };
+    plan.slots[1] = Slot { f: 1, e: 100, r: 200, x: 15, g: 0, s: 0 };
     plan
 }
 

@@ -21,14 +21,14 @@ unfolding readFor
 returns c =
     let size = c .before .before .size-verdict .ensures in
     let told = c .enum-told2 .given .1 in
-    rw (told, sym size ∙ told, c .before .before .before .before .read .ensures)
+    rw (told, sym size ∙ told, c .before .before .before .before .read .ensures .0)
 
 returns-2 : tie.Need-returns-2
 unfolding readFor
 returns-2 c =
     let size = c .before .before .size-verdict .ensures in
     let told = c .enum-told .given .1 in
-    rw (sym size ∙ told, c .before .before .before .before .read .ensures)
+    rw (sym size ∙ told, c .before .before .before .before .read .ensures .0)
 
 pub read-for-spec : {M : Type 1} → statement M
 read-for-spec =

@@ -5,7 +5,7 @@ use lib.ListN.{length, getD}
 use borrow.Author.Needs.{needs}
 use Rattle.laws.specs.Lists.{joined}
 use Rattle.laws.specs.Written.{Written}
-use Rattle.laws.proofs.Writes.{no-piece, next-member, length-kept, as-text}
+use Rattle.laws.proofs.Writes.{no-piece, next-member, length-kept, as-end, as-text}
 use Rattle.rules.specs.Yard.{freshDevice}
 use Rattle.encoded.specs.Bytes.{deviceBytes}
 use Rattle.encoded.proofs.Words.{device-word}
@@ -13,17 +13,16 @@ use Rattle.layout.proofs.yard.put_devices.Statement.{statement}
 use Rattle.layout.proofs.yard.put_devices.Tie as tie
 
 abbrev Inv-loop : tie.InvT-loop
-Inv-loop out₀ at devices end₀ k₀ out end k =
+Inv-loop out₀ devices k₀ out k =
     (k ≤ 8)
-    × Written out₀ at (joined (λ i. deviceBytes (getD devices (i - 1) freshDevice)) k) out end
-    × (end ≡ at + 4 * k)
+    × Written out₀ 8 (joined (λ i. deviceBytes (getD devices (i - 1) freshDevice)) k) out (8 + 4 * k)
     × (length out ≡ length out₀)
 
 abbrev μ-loop : tie.MeasureT-loop
-μ-loop out₀ at devices end₀ k₀ out end k = 8 - k
+μ-loop out₀ devices k₀ out k = 8 - k
 
 loop-holds : tie.Need-loop-holds Inv-loop μ-loop
-loop-holds c = (omega arith, no-piece _ _ _, omega arith, refl)
+loop-holds c = (omega arith, no-piece _ _ _, refl)
 
 mul-pack : tie.Need-mul-pack Inv-loop μ-loop
 mul-pack c = search needs
@@ -33,6 +32,12 @@ array-copy-out-pack c = search needs
 
 pack-requires : tie.Need-pack-requires Inv-loop μ-loop
 pack-requires c κs = search needs
+
+mul-put-four : tie.Need-mul-put-four Inv-loop μ-loop
+mul-put-four c = search needs
+
+add-put-four : tie.Need-add-put-four Inv-loop μ-loop
+add-put-four c = search needs
 
 put-four-requires : tie.Need-put-four-requires Inv-loop μ-loop
 put-four-requires c κs = search needs
@@ -52,13 +57,12 @@ loop-again c =
     let one = c .before .before .put-four .ensures in
     let bytes = device-word (getD devices k freshDevice) (number .result) (number .ensures .0) (number .ensures .1) in (
       omega arith,
-      next-member deviceBytes devices freshDevice k (inv .1) (as-text _ (one .0) bytes),
-      omega (arith, inv .2, one .1),
-      omega (arith, inv .3, length-kept (one .0)),
+      as-end (8 + 4 * (k + 1)) (next-member deviceBytes devices freshDevice k (inv .1) (as-text _ one bytes)) (omega arith),
+      omega (arith, inv .2, length-kept one),
     )
 
 same-length : tie.Need-same-length Inv-loop μ-loop
-same-length c = c .before .loop .inv .3
+same-length c = c .before .loop .inv .2
 
 returns : tie.Need-returns Inv-loop μ-loop
 returns c =
@@ -74,6 +78,8 @@ put-devices-spec =
     mul-pack
     array-copy-out-pack
     pack-requires
+    mul-put-four
+    add-put-four
     put-four-requires
     add-k
     loop-less

@@ -11,27 +11,36 @@ returns : tie.Need-returns
 unfolding yardOf
 returns c = rw (c .no-yard .ensures, lt-leb 40 _ (c .before .if1 .taken))
 
-shared-slice-read-base-of : tie.Need-shared-slice-read-base-of
-shared-slice-read-base-of c = search needs
+byte-at-requires : tie.Need-byte-at-requires
+byte-at-requires c κs = search needs
 
-shared-slice-read-base-of-2 : tie.Need-shared-slice-read-base-of-2
-shared-slice-read-base-of-2 c = search needs
+byte-at-requires-2 : tie.Need-byte-at-requires-2
+byte-at-requires-2 c κs = search needs
 
 base-of-requires : tie.Need-base-of-requires
 base-of-requires c κs = search needs
 
-two-in-requires : tie.Need-two-in-requires
-two-in-requires c κs = search needs
+two-at-requires : tie.Need-two-at-requires
+two-at-requires c κs = search needs
 
-lease-in-requires : tie.Need-lease-in-requires
-lease-in-requires c κs = search needs
+four-at-requires : tie.Need-four-at-requires
+four-at-requires c κs = search needs
 
 devices-in-requires : tie.Need-devices-in-requires
 devices-in-requires c κs = search needs
 
 returns-2 : tie.Need-returns-2
 unfolding yardIn yardOf
-returns-2 c = rw (c .devices-in .ensures, c .before .lease-in .ensures, c .before .before .two-in .ensures, c .before .before .before .base-of .ensures, le-leb 40 _ (c .before .before .before .before .before .before .if1 .left))
+returns-2 c =
+    rw (
+      c .devices-in .ensures,
+      c .before .four-at .ensures,
+      c .before .before .two-at .ensures,
+      c .before .before .before .base-of .ensures,
+      c .before .before .before .before .byte-at2 .ensures,
+      c .before .before .before .before .before .byte-at .ensures,
+      le-leb 40 _ (c .before .before .before .before .before .before .if1 .left),
+    )
 
 pub read-spec : {M : Type 1} → statement M
 read-spec =
@@ -39,10 +48,10 @@ read-spec =
     (tie.spec
     no-yard-requires
     returns
-    shared-slice-read-base-of
-    shared-slice-read-base-of-2
+    byte-at-requires
+    byte-at-requires-2
     base-of-requires
-    two-in-requires
-    lease-in-requires
+    two-at-requires
+    four-at-requires
     devices-in-requires
     returns-2)

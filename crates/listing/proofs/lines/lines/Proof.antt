@@ -38,8 +38,8 @@ record-at-requires c κs =
 tick-requires : tie.Need-tick-requires Inv-loop μ-loop
 tick-requires c κs = search needs
 
-broad-requires : tie.Need-broad-requires Inv-loop μ-loop
-broad-requires c κs = search needs
+long-requires : tie.Need-long-requires Inv-loop μ-loop
+long-requires c κs = search needs
 
 add-line : tie.Need-add-line Inv-loop μ-loop
 add-line c = search needs
@@ -80,7 +80,7 @@ loop-again c =
       omega arith,
       next-yard (a .p) (a .y) (a .roll .now) (a .first) ok (l .k) in-roll (l .yard) (r .result) (t .result) (l .inv .1) (r .ensures) (t .ensures),
       next-line (a .p) (a .y) (a .roll .now) (a .first) ok (l .k) in-roll (l .yard) (r .result) (t .result) (l .inv .1) (r .ensures) (t .ensures)
-          (c .before .before .before .before .before .broad .result) (c .before .before .before .before .down-lost .result) (c .before .before .before .before .before .broad .ensures .0) (c .before .before .before .before .down-lost .ensures) (l .inv .2) (w .0),
+          (c .before .before .before .before .before .long .result) (c .before .before .before .before .down-lost .result) (c .before .before .before .before .before .long .ensures .0) (c .before .before .before .before .down-lost .ensures) (l .inv .2) (w .0),
       omega (arith, room, w .1, l .inv .3),
       more-room (a .p) (a .y) (a .roll .now) (a .first) ok (a .out .now) (l .out) (l .k) (l .at) (l .inv .2) room (l .inv .4),
     )
@@ -108,7 +108,7 @@ lines-spec =
     sub-loop
     record-at-requires
     tick-requires
-    broad-requires
+    long-requires
     add-line
     add-line-2
     down-lost-requires

@@ -4,8 +4,8 @@ use borrow.Author.Needs.{needs}
 use Rattle.planfile.proofs.body.read_body.Statement.{statement}
 use Rattle.planfile.proofs.body.read_body.Tie as tie
 
-two-bytes-requires : tie.Need-two-bytes-requires
-two-bytes-requires c κs = search needs
+two-at-requires : tie.Need-two-at-requires
+two-at-requires c κs = search needs
 
 refusal-requires : tie.Need-refusal-requires
 refusal-requires c κs = search needs
@@ -20,7 +20,7 @@ returns : tie.Need-returns
 returns c =
     c .answer .ensures
     ∙ rw (c .before .before .refusal .ensures, c .before .empty-plan .ensures)
-    (body-refused _ _ (c .before .before .before .before .two-bytes .result) (c .before .before .before .before .two-bytes .ensures) (c .before .before .before .if1 .taken))
+    (body-refused _ _ (c .before .before .before .before .two-at .result) (c .before .before .before .before .two-at .ensures) (c .before .before .before .if1 .taken))
 
 plan-in-requires : tie.Need-plan-in-requires
 plan-in-requires c κs = search needs
@@ -35,13 +35,13 @@ returns-2 : tie.Need-returns-2
 returns-2 c =
     c .answer2 .ensures
     ∙ rw (c .before .check .ensures, c .before .before .plan-in .ensures)
-    (body-checked _ _ (c .before .before .before .before .two-bytes .result) (c .before .before .before .before .two-bytes .ensures) (c .before .before .before .if1 .left))
+    (body-checked _ _ (c .before .before .before .before .two-at .result) (c .before .before .before .before .two-at .ensures) (c .before .before .before .if1 .left))
 
 pub read-body-spec : {M : Type 1} → statement M
 read-body-spec =
     tie.close
     (tie.spec
-    two-bytes-requires
+    two-at-requires
     refusal-requires
     empty-plan-requires
     answer-requires

@@ -1,0 +1,87 @@
+// What crosses to C and Rust: a verdict as its number and index, a letter by its number, a piece by three numbers. No function
+// here has a `requires`.
+use finder::Piece;
+use rules::Down;
+use rules::Verdict;
+ghost use mathlib.Core.Path.{_≡_};
+ghost use Rattle.rules.specs.Verdict.{numberOf, indexOf};
+ghost use Rattle.calls.specs.Asked.{sizeVerdict};
+ghost use Rattle.calls.specs.Calls.{Answered, downNumber, whichOf, startOf, lengthOf};
+
+// A plan or a yard was lent at another length than its own.
+pub fn size_verdict(fits: bool) -> Verdict
+    ensures { λ r. ⌜ r ≡ sizeVerdict fits ⌝ }
+{
+    if !fits {
+        return Verdict::Refused {
+            number: 27,
+            index: 0,
+        };
+    }
+    Verdict::Accepted
+}
+
+fn number_of(v: Verdict) -> u8
+    ensures { λ r. ⌜ r ≡ numberOf v ⌝ }
+{
+    match v {
+        Verdict::Accepted => 0,
+        Verdict::Refused { number, index: _ } => number,
+    }
+}
+
+fn index_of(v: Verdict) -> usize
+    ensures { λ r. ⌜ r ≡ indexOf v ⌝ }
+{
+    match v {
+        Verdict::Accepted => 0,
+        Verdict::Refused { number: _, index } => index,
+    }
+}
+
+// The number is answered, the index goes behind the reference.
+pub fn answer(v: Verdict, index: &mut usize) -> u8
+    ensures { λ r. ⌜ Answered v r (now (index .exit)) ⌝ }
+{
+    *index = index_of(v);
+    number_of(v)
+}
+
+pub fn down_number(l: Down) -> u8
+    ensures { λ r. ⌜ r ≡ downNumber l ⌝ }
+{
+    match l {
+        Down::None => 0,
+        Down::LeaseReq(_) => 1,
+        Down::Grant(_) => 2,
+        Down::Cancel(_) => 3,
+        Down::Abort(_) => 4,
+    }
+}
+
+pub fn piece_slice(piece: Piece) -> u8
+    ensures { λ r. ⌜ r ≡ whichOf piece ⌝ }
+{
+    match piece {
+        Piece::InFile { start: _, len: _ } => 0,
+        Piece::InRoll { start: _, len: _ } => 1,
+    }
+}
+
+pub fn piece_start(piece: Piece) -> usize
+    ensures { λ r. ⌜ r ≡ startOf piece ⌝ }
+{
+    match piece {
+        Piece::InFile { start, len: _ } => start,
+        Piece::InRoll { start, len: _ } => start,
+    }
+}
+
+pub fn piece_len(piece: Piece) -> usize
+    ensures { λ r. ⌜ r ≡ lengthOf piece ⌝ }
+{
+    match piece {
+        Piece::InFile { start: _, len } => len,
+        Piece::InRoll { start: _, len } => len,
+    }
+}
