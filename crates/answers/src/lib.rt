@@ -1,12 +1,10 @@
-// What crosses to C and Rust: a verdict as its number and index, a letter by its number, a piece by three numbers. No function
-// here has a `requires`.
-use finder::Piece;
-use rules::Down;
+// What crosses to C and Rust: a verdict as its number and index, a piece by three numbers. No function here has a `requires`.
+use finder_rules::Piece;
 use rules::Verdict;
 ghost use mathlib.Core.Path.{_≡_};
 ghost use Rattle.rules.specs.Verdict.{numberOf, indexOf};
-ghost use Rattle.calls.specs.Asked.{sizeVerdict};
-ghost use Rattle.calls.specs.Calls.{Answered, downNumber, whichOf, startOf, lengthOf};
+ghost use Rattle.exports_rules.specs.Asked.{sizeVerdict};
+ghost use Rattle.exports_rules.specs.Calls.{Answered, whichOf, startOf, lengthOf};
 
 // A plan or a yard was lent at another length than its own.
 pub fn size_verdict(fits: bool) -> Verdict
@@ -45,18 +43,6 @@ pub fn answer(v: Verdict, index: &mut usize) -> u8
 {
     *index = index_of(v);
     number_of(v)
-}
-
-pub fn down_number(l: Down) -> u8
-    ensures { λ r. ⌜ r ≡ downNumber l ⌝ }
-{
-    match l {
-        Down::None => 0,
-        Down::LeaseReq(_) => 1,
-        Down::Grant(_) => 2,
-        Down::Cancel(_) => 3,
-        Down::Abort(_) => 4,
-    }
 }
 
 pub fn piece_slice(piece: Piece) -> u8

@@ -1,12 +1,12 @@
 // What the supervisor does in a tick (step 3), once step 1 has moved its clocks on and the letters have gone up.
 // It only compares clocks and sets them to 0, so it takes any place and any clocks, and no function here has a `requires`.
 // `last` is what is heard from the initializer, `own` what is heard from the device i of the supervisor's place.
-use packed::letter_number;
 use rules::Base;
 use rules::BaseMove;
 use rules::Down;
 use rules::Letter;
 use rules::Terms;
+use vocabulary::letter_number;
 ghost use mathlib.Core.Path.{_≡_};
 ghost use Prim.Native.Nat.{_-_, _<_};
 ghost use Rattle.rules.specs.Yard as yard;

@@ -1,5 +1,5 @@
-// What one device does in a tick: its own move (step 2) and the letter that reaches it (step 4).
-// These only compare clocks and set them to 0, so they take any device, and no function here has a `requires`.
+// What one device does in a tick: its own move (step 2) and the letter that reaches it (step 4), made of the ways in which a
+// device changes. These only compare clocks and set them, so they take any device, and no function here has a `requires`.
 use rules::Device;
 use rules::Down;
 use rules::Letter;
@@ -10,9 +10,53 @@ ghost use Rattle.rules.specs.Yard as yard;
 ghost use Rattle.rules.specs.Tick.Step2 as step2;
 ghost use Rattle.rules.specs.Tick.Step4 as step4;
 
-fn at(place: Place, clock: u16, letter: Letter) -> Device
-    ensures { λ r. ⌜ r ≡ yard.at place clock letter ⌝ }
+// In Fall-Back, clock 0, no letter.
+pub fn fresh_device() -> Device
+    ensures { λ r. ⌜ r ≡ yard.freshDevice ⌝ }
 {
+    Device {
+        clock: 0,
+        place: Place::FallBack,
+        letter: Letter::None,
+    }
+}
+
+// A new place starts its clock at 0; a letter that waits stays.
+pub fn goes_to(place: Place, d: Device) -> Device
+    ensures { λ r. ⌜ r ≡ yard.goesTo place d ⌝ }
+{
+    let waiting = d.letter;
+    let start: u16 = 0;
+    Device {
+        clock: start,
+        place,
+        letter: waiting,
+    }
+}
+
+pub fn writes(letter: Letter, d: Device) -> Device
+    ensures { λ r. ⌜ r ≡ yard.writes letter d ⌝ }
+{
+    let place = d.place;
+    Device {
+        clock: d.clock,
+        place,
+        letter,
+    }
+}
+
+// Both, for a move with a letter of its own.
+fn goes_writing(place: Place, letter: Letter, d: Device) -> Device
+    ensures { λ r. ⌜ r ≡ yard.goesWriting place letter d ⌝ }
+{
+    writes(letter, goes_to(place, d))
+}
+
+pub fn clock_at(clock: u16, d: Device) -> Device
+    ensures { λ r. ⌜ r ≡ yard.clockAt clock d ⌝ }
+{
+    let place = d.place;
+    let letter = d.letter;
     Device {
         clock,
         place,
@@ -35,48 +79,48 @@ fn due(q: u16, s: Slot, place: Place, clock: u16) -> bool
 }
 
 // Where a device goes whose time has come. A letter that waits stays, unless the move has one of its own.
-fn due_move(place: Place, letter: Letter) -> Device
-    ensures { λ r. ⌜ r ≡ step2.dueMove place letter ⌝ }
+fn due_move(place: Place, d: Device) -> Device
+    ensures { λ r. ⌜ r ≡ step2.dueMove place d ⌝ }
 {
     match place {
-        Place::FallBack => at(Place::FallBack, 0, letter),
-        Place::Requesting => at(Place::FallBack, 0, letter),
-        Place::Entering => at(Place::Running, 0, letter),
-        Place::Running => at(Place::Exiting1, 0, letter),
-        Place::Exiting1 => at(Place::FallBack, 0, Letter::Exit),
-        Place::Exiting2 => at(Place::FallBack, 0, Letter::Exit),
+        Place::FallBack => d,
+        Place::Requesting => goes_to(Place::FallBack, d),
+        Place::Entering => goes_to(Place::Running, d),
+        Place::Running => goes_to(Place::Exiting1, d),
+        Place::Exiting1 => goes_writing(Place::FallBack, Letter::Exit, d),
+        Place::Exiting2 => goes_writing(Place::FallBack, Letter::Exit, d),
     }
 }
 
-fn heed_request(s: Slot, place: Place, clock: u16, letter: Letter) -> Device
-    ensures { λ r. ⌜ r ≡ step2.heedRequest s place clock letter ⌝ }
+fn heed_request(s: Slot, place: Place, d: Device) -> Device
+    ensures { λ r. ⌜ r ≡ step2.heedRequest s place d ⌝ }
 {
     match place {
         Place::FallBack => {
-            if clock == s.F {
-                at(Place::Requesting, 0, Letter::Request)
+            if d.clock == s.F {
+                goes_writing(Place::Requesting, Letter::Request, d)
             } else {
-                at(Place::FallBack, clock, letter)
+                d
             }
         }
-        Place::Requesting => at(Place::Requesting, clock, letter),
-        Place::Entering => at(Place::Entering, clock, letter),
-        Place::Running => at(Place::Running, clock, letter),
-        Place::Exiting1 => at(Place::Exiting1, clock, letter),
-        Place::Exiting2 => at(Place::Exiting2, clock, letter),
+        Place::Requesting => d,
+        Place::Entering => d,
+        Place::Running => d,
+        Place::Exiting1 => d,
+        Place::Exiting2 => d,
     }
 }
 
-fn heed_cancel(place: Place, clock: u16, letter: Letter) -> Device
-    ensures { λ r. ⌜ r ≡ step2.heedCancel place clock letter ⌝ }
+fn heed_cancel(place: Place, d: Device) -> Device
+    ensures { λ r. ⌜ r ≡ step2.heedCancel place d ⌝ }
 {
     match place {
-        Place::FallBack => at(Place::FallBack, clock, letter),
-        Place::Requesting => at(Place::FallBack, 0, Letter::Cancel),
-        Place::Entering => at(Place::Exiting2, 0, Letter::Cancel),
-        Place::Running => at(Place::Exiting1, 0, Letter::Cancel),
-        Place::Exiting1 => at(Place::Exiting1, clock, letter),
-        Place::Exiting2 => at(Place::Exiting2, clock, letter),
+        Place::FallBack => d,
+        Place::Requesting => goes_writing(Place::FallBack, Letter::Cancel, d),
+        Place::Entering => goes_writing(Place::Exiting2, Letter::Cancel, d),
+        Place::Running => goes_writing(Place::Exiting1, Letter::Cancel, d),
+        Place::Exiting1 => d,
+        Place::Exiting2 => d,
     }
 }
 
@@ -85,12 +129,11 @@ fn heed(s: Slot, command: u8, d: Device) -> Device
     ensures { λ r. ⌜ r ≡ step2.heed s command d ⌝ }
 {
     let place = d.place;
-    let letter = d.letter;
     if command == 1 {
-        return heed_request(s, place, d.clock, letter);
+        return heed_request(s, place, d);
     }
     if command == 2 {
-        return heed_cancel(place, d.clock, letter);
+        return heed_cancel(place, d);
     }
     d
 }
@@ -100,9 +143,8 @@ pub fn moved(q: u16, s: Slot, initializer: bool, command: u8, d: Device) -> Devi
     ensures { λ r. ⌜ r ≡ step2.moved q s initializer command d ⌝ }
 {
     let place = d.place;
-    let letter = d.letter;
     if due(q, s, place, d.clock) {
-        return due_move(place, letter);
+        return due_move(place, d);
     }
     if initializer {
         return heed(s, command, d);
@@ -110,52 +152,52 @@ pub fn moved(q: u16, s: Slot, initializer: bool, command: u8, d: Device) -> Devi
     d
 }
 
-fn hear_lease_req(s: Slot, willing: bool, place: Place, clock: u16, letter: Letter) -> Device
-    ensures { λ r. ⌜ r ≡ step4.hearLeaseReq s willing place clock letter ⌝ }
+fn hear_lease_req(s: Slot, willing: bool, place: Place, d: Device) -> Device
+    ensures { λ r. ⌜ r ≡ step4.hearLeaseReq s willing place d ⌝ }
 {
     match place {
         Place::FallBack => {
-            if clock == s.F {
+            if d.clock == s.F {
                 if willing {
-                    at(Place::Entering, 0, Letter::Approve)
+                    goes_writing(Place::Entering, Letter::Approve, d)
                 } else {
-                    at(Place::FallBack, 0, Letter::Deny)
+                    goes_writing(Place::FallBack, Letter::Deny, d)
                 }
             } else {
-                at(Place::FallBack, clock, letter)
+                d
             }
         }
-        Place::Requesting => at(Place::Requesting, clock, letter),
-        Place::Entering => at(Place::Entering, clock, letter),
-        Place::Running => at(Place::Running, clock, letter),
-        Place::Exiting1 => at(Place::Exiting1, clock, letter),
-        Place::Exiting2 => at(Place::Exiting2, clock, letter),
+        Place::Requesting => d,
+        Place::Entering => d,
+        Place::Running => d,
+        Place::Exiting1 => d,
+        Place::Exiting2 => d,
     }
 }
 
-fn hear_grant(place: Place, clock: u16, letter: Letter) -> Device
-    ensures { λ r. ⌜ r ≡ step4.hearGrant place clock letter ⌝ }
+fn hear_grant(place: Place, d: Device) -> Device
+    ensures { λ r. ⌜ r ≡ step4.hearGrant place d ⌝ }
 {
     match place {
-        Place::FallBack => at(Place::FallBack, clock, letter),
-        Place::Requesting => at(Place::Entering, 0, letter),
-        Place::Entering => at(Place::Entering, clock, letter),
-        Place::Running => at(Place::Running, clock, letter),
-        Place::Exiting1 => at(Place::Exiting1, clock, letter),
-        Place::Exiting2 => at(Place::Exiting2, clock, letter),
+        Place::FallBack => d,
+        Place::Requesting => goes_to(Place::Entering, d),
+        Place::Entering => d,
+        Place::Running => d,
+        Place::Exiting1 => d,
+        Place::Exiting2 => d,
     }
 }
 
-fn hear_cancel(place: Place, clock: u16, letter: Letter) -> Device
-    ensures { λ r. ⌜ r ≡ step4.hearCancel place clock letter ⌝ }
+fn hear_cancel(place: Place, d: Device) -> Device
+    ensures { λ r. ⌜ r ≡ step4.hearCancel place d ⌝ }
 {
     match place {
-        Place::FallBack => at(Place::FallBack, clock, letter),
-        Place::Requesting => at(Place::Requesting, clock, letter),
-        Place::Entering => at(Place::Exiting2, 0, letter),
-        Place::Running => at(Place::Exiting1, 0, letter),
-        Place::Exiting1 => at(Place::Exiting1, clock, letter),
-        Place::Exiting2 => at(Place::Exiting2, clock, letter),
+        Place::FallBack => d,
+        Place::Requesting => d,
+        Place::Entering => goes_to(Place::Exiting2, d),
+        Place::Running => goes_to(Place::Exiting1, d),
+        Place::Exiting1 => d,
+        Place::Exiting2 => d,
     }
 }
 
@@ -164,36 +206,17 @@ pub fn arrived(s: Slot, willing: bool, l: Down, i: u8, d: Device) -> Device
     ensures { λ r. ⌜ r ≡ step4.arrived s willing l i d ⌝ }
 {
     let place = d.place;
-    let letter = d.letter;
     match l {
         Down::None => d,
         Down::LeaseReq(k) => {
             if i == k {
-                hear_lease_req(s, willing, place, d.clock, letter)
+                hear_lease_req(s, willing, place, d)
             } else {
                 d
             }
         }
-        Down::Grant(k) => {
-            if i == k {
-                hear_grant(place, d.clock, letter)
-            } else {
-                d
-            }
-        }
-        Down::Cancel(k) => {
-            if i == k {
-                hear_cancel(place, d.clock, letter)
-            } else {
-                d
-            }
-        }
-        Down::Abort(k) => {
-            if i == k {
-                hear_cancel(place, d.clock, letter)
-            } else {
-                d
-            }
-        }
+        Down::Grant(k) => { if i == k { hear_grant(place, d) } else { d } }
+        Down::Cancel(k) => { if i == k { hear_cancel(place, d) } else { d } }
+        Down::Abort(k) => { if i == k { hear_cancel(place, d) } else { d } }
     }
 }

@@ -1,8 +1,10 @@
 // The answers of document 01's calls to plans and yards that are lent as bytes. A wrong length is refused before all else.
 use answers::size_verdict;
-use files::ReadAnswer;
-use files::WriteAnswer;
-use printed::Listed;
+use layout::yard::YARD_SIZE;
+use listing_rules::Listed;
+use planfile::PLAN_SIZE;
+use planfile_rules::ReadAnswer;
+use planfile_rules::WriteAnswer;
 use rules::Down;
 use rules::FreshAnswer;
 use rules::Record;
@@ -12,14 +14,14 @@ use rules::Verdict;
 ghost use mathlib.Core.Path.{_≡_};
 ghost use lib.ListN.{length, take};
 ghost use Rattle.rules.specs.declared.Verdict.the-variants.{Accepted};
-ghost use Rattle.files.specs.File.{wholePlan};
-ghost use Rattle.files.specs.Writing.{ReadAs};
-ghost use Rattle.calls.specs.Asked.{KeptBy, checkFor, freshFor, tickFor, runFor, engagedFor, readFor, writeFor, fileFor, listFor, textFor};
+ghost use Rattle.planfile_rules.specs.File.{wholePlan};
+ghost use Rattle.planfile_rules.specs.Writing.{ReadAs};
+ghost use Rattle.exports_rules.specs.Asked.{KeptBy, checkFor, freshFor, tickFor, runFor, engagedFor, readFor, writeFor, fileFor, listFor, textFor};
 
 pub(crate) fn check_for(plan: &[u8]) -> Verdict
     ensures { λ r. ⌜ r ≡ checkFor (now (plan .entry)) ⌝ }
 {
-    let size = size_verdict(plan.len() == 104);
+    let size = size_verdict(plan.len() == PLAN_SIZE);
     let Verdict::Accepted = size else {
         return size;
     };
@@ -31,7 +33,7 @@ pub(crate) fn fresh_for(plan: &[u8], room: usize) -> FreshAnswer
 {
     let a = yard::fresh(planfile::whole_plan(plan));
     let yard = a.yard;
-    let size = size_verdict((plan.len() == 104) & (room == 40));
+    let size = size_verdict((plan.len() == PLAN_SIZE) & (room == YARD_SIZE));
     let Verdict::Accepted = size else {
         return FreshAnswer {
             verdict: size,
@@ -46,7 +48,7 @@ pub(crate) fn tick_for(plan: &[u8], bytes: &[u8], r: Record) -> TickAnswer
 {
     let p = planfile::whole_plan(plan);
     let yard = layout::yard::read(bytes);
-    let size = size_verdict((plan.len() == 104) & (bytes.len() == 40));
+    let size = size_verdict((plan.len() == PLAN_SIZE) & (bytes.len() == YARD_SIZE));
     let Verdict::Accepted = size else {
         return TickAnswer {
             verdict: size,
@@ -70,7 +72,7 @@ pub(crate) fn run_for(
 {
     let p = planfile::whole_plan(plan);
     let yard = layout::yard::read(bytes);
-    let size = size_verdict((plan.len() == 104) & (bytes.len() == 40));
+    let size = size_verdict((plan.len() == PLAN_SIZE) & (bytes.len() == YARD_SIZE));
     let Verdict::Accepted = size else {
         return RunAnswer {
             verdict: size,
@@ -86,7 +88,7 @@ pub(crate) fn read_for(file: &[u8], room: usize) -> ReadAnswer
 {
     let a = planfile::read(file);
     let plan = a.plan;
-    let size = size_verdict(room == 104);
+    let size = size_verdict(room == PLAN_SIZE);
     let Verdict::Accepted = size else {
         return ReadAnswer {
             verdict: size,
@@ -102,7 +104,7 @@ pub(crate) fn write_for(plan: &[u8], file: &mut [u8]) -> WriteAnswer
     ensures { λ a. ⌜ (a .verdict ≡ Accepted → ReadAs (take (a .length) (now (file .exit))) (wholePlan (now (plan .entry)))) ⌝ }
 {
     let p = planfile::whole_plan(plan);
-    let size = size_verdict(plan.len() == 104);
+    let size = size_verdict(plan.len() == PLAN_SIZE);
     let Verdict::Accepted = size else {
         return WriteAnswer {
             verdict: size,
@@ -118,7 +120,7 @@ pub(crate) fn list_for(plan: &[u8], bytes: &[u8], roll: &[u8], first: u32, out: 
 {
     let p = planfile::whole_plan(plan);
     let yard = layout::yard::read(bytes);
-    let size = size_verdict((plan.len() == 104) & (bytes.len() == 40));
+    let size = size_verdict((plan.len() == PLAN_SIZE) & (bytes.len() == YARD_SIZE));
     let Verdict::Accepted = size else {
         return Listed {
             verdict: size,

@@ -6,12 +6,13 @@ ghost use mathlib.Core.Path.{_≡_};
 ghost use lib.ListN.{length};
 ghost use Rattle.rules.specs.declared.Verdict.the-variants.{Accepted};
 ghost use Rattle.rules.specs.Verdict.{ifAccepted};
-ghost use Rattle.files.specs.Writing.{planBytes};
-ghost use Rattle.encoded.specs.Bytes.{yardBytes};
+ghost use Rattle.planfile_rules.specs.File.{planSize};
+ghost use Rattle.planfile_rules.specs.Writing.{planBytes};
+ghost use Rattle.layout_rules.specs.Bytes.{yardBytes, yardSize};
 
 // The yard that a call has moved takes the place of the one that it was lent; a call that is refused leaves that as it is.
 pub(crate) fn keep_yard(v: Verdict, y: Yard, bytes: &mut [u8])
-    requires { ⌜ (v ≡ Accepted → length (now bytes) ≡ 40) ⌝ }
+    requires { ⌜ (v ≡ Accepted → length (now bytes) ≡ yardSize) ⌝ }
     ensures { λ r. ⌜ now (bytes .exit) ≡ ifAccepted v (yardBytes y) (now (bytes .entry)) ⌝ }
 {
     let Verdict::Accepted = v else {
@@ -22,7 +23,7 @@ pub(crate) fn keep_yard(v: Verdict, y: Yard, bytes: &mut [u8])
 
 // So with a plan that has been read.
 pub(crate) fn keep_plan(v: Verdict, p: Plan, bytes: &mut [u8])
-    requires { ⌜ (v ≡ Accepted → length (now bytes) ≡ 104) ⌝ }
+    requires { ⌜ (v ≡ Accepted → length (now bytes) ≡ planSize) ⌝ }
     ensures { λ r. ⌜ now (bytes .exit) ≡ ifAccepted v (planBytes p) (now (bytes .entry)) ⌝ }
 {
     let Verdict::Accepted = v else {

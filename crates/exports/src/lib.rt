@@ -1,12 +1,12 @@
 // The calls for C and Rust: numbers and byte slices. include/wilatkhun.h has each contract in words, and the bytes' layout.
 //
 // A number behind a reference (index, ticks, length, start, down, device) is always written. A call that refuses changes no
-// byte of a lent buffer. No exported function has a `requires`.
+// byte of a lent buffer. No exported function has a `requires`; of the private ones, those that keep a yard or a plan rest on
+// the length that was looked at before.
 mod asked;
 mod kept;
 
 use answers::answer;
-use answers::down_number;
 use answers::piece_len;
 use answers::piece_slice;
 use answers::piece_start;
@@ -19,13 +19,14 @@ use asked::tick_for;
 use asked::write_for;
 use kept::keep_plan;
 use kept::keep_yard;
-use packed::down_index;
 use rules::Record;
+use vocabulary::down_index;
+use vocabulary::down_number;
 ghost use mathlib.Core.Path.{_≡_};
 ghost use Prim.Native.Nat.{_+_};
 ghost use lib.ListN.{length};
-ghost use Rattle.printed.specs.Listing.{headerWritten, headerBuffer};
-ghost use Rattle.calls.specs.Calls.{Checked, Freshened, Ticked, Ran, Taken, Wrote, Found, Lined};
+ghost use Rattle.listing_rules.specs.Listing.{headerWritten, headerBuffer};
+ghost use Rattle.exports_rules.specs.Calls.{Checked, Freshened, Ticked, Ran, Taken, Wrote, Found, Lined};
 
 #[no_mangle]
 pub extern "C" fn wilatkhun_check(plan: &[u8], index: &mut usize) -> u8

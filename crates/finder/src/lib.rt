@@ -1,19 +1,19 @@
 // The finder: of a plan file and a roll, the bytes that are refused. It takes any two lent slices, and names a part of one of
 // them by numbers, or hands that part back; no public function here has a `requires`.
+use finder_rules::Piece;
+use rolls::RECORD_SIZE;
 use rolls::first_bad;
+use rolls::left_over;
+use rolls::record_start;
+use rolls::records;
 use rules::Plan;
 use rules::Verdict;
+use vocabulary::number_of;
 ghost use mathlib.Core.Path.{_≡_};
 ghost use Prim.Native.Nat.{_+_, _-_, _≤_, min};
 ghost use lib.ListN.{length};
-ghost use Rattle.finder.specs.declared.Piece.the-variants.{InFile, InRoll};
-ghost use Rattle.finder.specs.Piece.{PartOf, Lies, fileStart, fileLength, rollStart, rollLength, piece};
-
-// A part of the file or of the roll: where it starts, and how many bytes it has.
-pub enum Piece {
-    InFile { start: usize, len: usize },
-    InRoll { start: usize, len: usize },
-}
+ghost use Rattle.finder_rules.specs.declared.Piece.the-variants.{InFile, InRoll};
+ghost use Rattle.finder_rules.specs.Piece.{PartOf, Lies, fileStart, fileLength, rollStart, rollLength, piece};
 
 // The last ten bytes of a file of len bytes; all of a shorter one.
 fn last_ten(len: usize) -> Piece
@@ -43,18 +43,19 @@ fn file_piece(file: &[u8], number: u8) -> Piece
 fn roll_piece(p: Plan, roll: &[u8]) -> Piece
     ensures { λ r. ⌜ r ≡ InRoll (rollStart p (now (roll .entry))) (rollLength p (now (roll .entry))) ⌝ }
 {
-    let len = roll.len();
-    let left = len % 4;
+    let end = roll.len();
+    let left = left_over(roll);
     if left != 0 {
-        let start = len - left;
+        let start = record_start(roll, records(roll));
         return Piece::InRoll { start, len: left };
     }
     let bad = first_bad(p, roll);
-    if bad < len / 4 {
-        let start = 4 * bad;
-        return Piece::InRoll { start, len: 4 };
+    if bad < records(roll) {
+        let at = record_start(roll, bad);
+        let len = RECORD_SIZE;
+        return Piece::InRoll { start: at, len };
     }
-    Piece::InRoll { start: len, len: 0 }
+    Piece::InRoll { start: end, len: 0 }
 }
 
 // Of a file and a roll, the refused piece of whichever is at fault: the last ten bytes of the file (all, if shorter) for 14 to
@@ -65,11 +66,11 @@ pub fn locate(file: &[u8], roll: &[u8]) -> Piece
 {
     let answer = planfile::read(file);
     let verdict = answer.verdict;
-    let p = answer.plan;
-    let Verdict::Refused { number, index: _ } = verdict else {
-        return roll_piece(p, roll);
+    let Verdict::Accepted = verdict else {
+        return file_piece(file, number_of(verdict));
     };
-    file_piece(file, number)
+    let p = answer.plan;
+    roll_piece(p, roll)
 }
 
 // The n bytes of s from start.

@@ -1,156 +1,169 @@
 // A yard as bytes: where the base stands, its device, the place clock (2), the lease clock (4), then for each of the eight
 // devices its clock (2), its place and its letter.
+use device::fresh_device;
 use numbers::read::byte_at;
 use numbers::read::four_at;
 use numbers::read::two;
 use numbers::read::two_at;
+use numbers::widths::long_byte;
 use numbers::write::put_four;
 use numbers::write::put_two;
-use packed::letter_of;
-use packed::pack;
-use packed::place_of;
 use rules::Base;
 use rules::Device;
-use rules::Letter;
-use rules::Place;
 use rules::Yard;
+use vocabulary::base_index;
+use vocabulary::base_number;
+use vocabulary::base_of;
+use vocabulary::letter_number;
+use vocabulary::letter_of;
+use vocabulary::place_number;
+use vocabulary::place_of;
 ghost use mathlib.Core.Path.{_≡_};
-ghost use mathlib.Core.List.{_++_};
-ghost use Prim.Native.Nat.{_+_, _*_, _≤_};
-ghost use lib.ListN.{length, drop};
+ghost use mathlib.Core.List.{[], _∷_, _++_};
+ghost use Prim.Native.Nat.{_+_};
+ghost use lib.ListN.{length, drop, replicate};
+ghost use Rattle.laws.specs.Tests.{each};
+ghost use Rattle.laws.specs.Lists.{tabulate};
 ghost use Rattle.laws.specs.Written.{Written};
-ghost use Rattle.encoded.specs.Numbers.{baseNumber, baseOf, deviceOf};
-ghost use Rattle.rules.specs.Tick.Step3.{baseIndex};
-ghost use Rattle.encoded.specs.Bytes.{devicesBytes, yardWritten};
-ghost use Rattle.encoded.specs.Reading.{deviceIn, devicesIn, noYard, yardOf};
+ghost use Rattle.rules.specs.Yard.{freshDevice};
+ghost use Rattle.layout_rules.specs.Bytes.{deviceBytes, devicesBytes, deviceStart, yardSize, yardWritten};
+ghost use Rattle.layout_rules.specs.Reading.{baseStands, deviceStands, isYard, deviceIn, noYard, yardOf};
 
-// Where the base stands and its device, as one number.
-fn base_word(base: Base) -> u16
-    ensures { λ r. ⌜ r ≡ baseNumber base + 256 * baseIndex base ⌝ }
+pub const YARD_SIZE: usize = 40;
+
+// Where the bytes of device k + 1 start.
+fn device_start(k: u8) -> usize
+    ensures { λ r. ⌜ r ≡ deviceStart (k + 1) ⌝ }
 {
-    match base {
-        Base::FallBack => 0,
-        Base::Lease(i) => two(1, i),
-        Base::Cancel(i) => two(2, i),
-        Base::Abort(i) => two(3, i),
-    }
+    8 + 4 * long_byte(k)
 }
 
-// A device's four bytes are those of its number.
-fn put_devices(devices: [Device; 8], out: &mut [u8])
-    ensures { λ r. ⌜ Written (now (out .entry)) 8 (devicesBytes devices 8) (now (out .exit)) 40 ⌝ }
+fn put_pair(first: u8, second: u8, out: &mut [u8], at: usize)
+    ensures { λ r. ⌜ Written (now (out .entry)) at (first ∷ second ∷ []) (now (out .exit)) (at + 2) ⌝ }
 {
-    let mut k: usize = 0;
+    put_two(two(first, second), out, at);
+}
+
+fn put_device(d: Device, out: &mut [u8], k: u8)
+    ensures { λ r. ⌜ Written (now (out .entry)) (deviceStart (k + 1)) (deviceBytes d) (now (out .exit)) (deviceStart (k + 1) + 4) ⌝ }
+{
+    let place = d.place;
+    let letter = d.letter;
+    let at = device_start(k);
+    put_two(d.clock, out, at);
+    put_pair(place_number(place), letter_number(letter), out, at + 2);
+}
+
+fn put_devices(devices: [Device; 8], out: &mut [u8])
+    ensures { λ r. ⌜ Written (now (out .entry)) (deviceStart 1) (devicesBytes devices 8) (now (out .exit)) yardSize ⌝ }
+{
+    let mut k: u8 = 0;
     while k < 8 {
-        put_four(pack(devices[k]), out, 8 + 4 * k);
+        put_device(devices[long_byte(k)], out, k);
         k += 1;
     }
 }
 
-// A yard's 40 bytes at the front of a buffer; the answer is how many bytes were written, none in a shorter buffer. Later
-// bytes keep their value.
+// A yard's bytes at the front of a buffer; the answer is how many bytes were written, none in a shorter buffer. Later bytes
+// keep their value.
 pub fn put(y: Yard, out: &mut [u8]) -> usize
     ensures { λ r. ⌜ r ≡ length (yardWritten y (length (now (out .entry)))) ⌝ }
     ensures { λ r. ⌜ now (out .exit) ≡ yardWritten y (length (now (out .entry))) ++ drop r (now (out .entry)) ⌝ }
 {
-    if out.len() < 40 {
+    if out.len() < YARD_SIZE {
         return 0;
     }
     let base = y.base;
     let devices = y.devices;
-    put_two(base_word(base), out, 0);
+    put_pair(base_number(base), base_index(base), out, 0);
     put_two(y.clock, out, 2);
     put_four(y.lease, out, 4);
     put_devices(devices, out);
-    40
+    YARD_SIZE
 }
 
-// A base that no plan takes: there is no device 0.
-fn base_of(number: u8, i: u8) -> Base
-    ensures { λ r. ⌜ r ≡ baseOf number i ⌝ }
+fn base_stands(number: u8, i: u8) -> bool
+    ensures { λ r. ⌜ r ≡ baseStands number i ⌝ }
 {
-    if number == 1 {
-        return Base::Lease(i);
-    }
-    if number == 2 {
-        return Base::Cancel(i);
-    }
-    if number == 3 {
-        return Base::Abort(i);
-    }
-    if (number == 0) & (i == 0) {
-        return Base::FallBack;
-    }
-    Base::Lease(0)
+    (number <= 3) & ((0 < number) | (i == 0))
 }
 
-// A place or a letter that has no such number makes a device that no plan takes: between ticks no Request waits.
-fn device_of(clock: u16, place: u8, letter: u8) -> Device
-    ensures { λ r. ⌜ r ≡ deviceOf clock place letter ⌝ }
+fn device_stands(bytes: &[u8], k: u8) -> bool
+    ensures { λ r. ⌜ r ≡ deviceStands (now (bytes .entry)) (k + 1) ⌝ }
 {
-    if 5 < place {
-        return Device {
-            clock,
-            place: Place::FallBack,
-            letter: Letter::Request,
-        };
+    let at = device_start(k);
+    (byte_at(bytes, at + 2) <= 5) & (byte_at(bytes, at + 3) <= 5)
+}
+
+fn devices_stand(bytes: &[u8]) -> bool
+    ensures { λ r. ⌜ r ≡ each (deviceStands (now (bytes .entry))) 8 ⌝ }
+{
+    let mut all = true;
+    let mut k: u8 = 0;
+    while k < 8 {
+        all = all & device_stands(bytes, k);
+        k += 1;
     }
+    all
+}
+
+// The length is looked at first and by itself: whoever reads a byte behind that need not ask for it again, which halves the time
+// of a reading.
+fn is_yard(bytes: &[u8]) -> bool
+    ensures { λ r. ⌜ r ≡ isYard (now (bytes .entry)) ⌝ }
+{
+    if bytes.len() < YARD_SIZE {
+        return false;
+    }
+    base_stands(byte_at(bytes, 0), byte_at(bytes, 1)) & devices_stand(bytes)
+}
+
+fn fresh_devices() -> [Device; 8]
+    ensures { λ r. ⌜ r ≡ replicate 8 freshDevice ⌝ }
+{
+    [fresh_device(); 8]
+}
+
+// What other bytes are read as: no plan takes it, for there is no device 0.
+fn no_yard() -> Yard
+    ensures { λ r. ⌜ r ≡ noYard ⌝ }
+{
+    Yard {
+        base: Base::Lease(0),
+        clock: 0,
+        lease: 0,
+        devices: fresh_devices(),
+    }
+}
+
+fn device_in(bytes: &[u8], k: u8) -> Device
+    ensures { λ r. ⌜ r ≡ deviceIn (now (bytes .entry)) (k + 1) ⌝ }
+{
+    let at = device_start(k);
     Device {
-        clock,
-        place: place_of(place),
-        letter: letter_of(letter),
+        clock: two_at(bytes, at),
+        place: place_of(byte_at(bytes, at + 2)),
+        letter: letter_of(byte_at(bytes, at + 3)),
     }
-}
-
-fn device_in(bytes: &[u8], at: usize) -> Device
-    requires { ⌜ at ≤ 36 ⌝ }
-    ensures { λ r. ⌜ r ≡ deviceIn (now (bytes .entry)) at ⌝ }
-{
-    device_of(
-        two_at(bytes, at),
-        byte_at(bytes, at + 2),
-        byte_at(bytes, at + 3),
-    )
 }
 
 fn devices_in(bytes: &[u8]) -> [Device; 8]
-    ensures { λ r. ⌜ r ≡ devicesIn (now (bytes .entry)) ⌝ }
+    ensures { λ r. ⌜ r ≡ tabulate (deviceIn (now (bytes .entry))) 8 ⌝ }
 {
-    let d = Device {
-        clock: 0,
-        place: Place::FallBack,
-        letter: Letter::None,
-    };
-    let mut devices = [d; 8];
-    let mut k: usize = 0;
+    let mut devices = fresh_devices();
+    let mut k: u8 = 0;
     while k < 8 {
-        devices[k] = device_in(bytes, 8 + 4 * k);
+        devices[long_byte(k)] = device_in(bytes, k);
         k += 1;
     }
     devices
 }
 
-fn no_yard() -> Yard
-    ensures { λ r. ⌜ r ≡ noYard ⌝ }
-{
-    let d = Device {
-        clock: 0,
-        place: Place::FallBack,
-        letter: Letter::None,
-    };
-    Yard {
-        base: Base::Lease(0),
-        clock: 0,
-        lease: 0,
-        devices: [d; 8],
-    }
-}
-
-// The yard that the first 40 bytes hold; of fewer bytes, and of malformed ones, one that is well formed under no plan.
+// The yard that the bytes start with; of too few bytes, and of malformed ones, a yard that is well formed under no plan.
 pub fn read(bytes: &[u8]) -> Yard
     ensures { λ r. ⌜ r ≡ yardOf (now (bytes .entry)) ⌝ }
 {
-    if bytes.len() < 40 {
+    if !is_yard(bytes) {
         return no_yard();
     }
     Yard {

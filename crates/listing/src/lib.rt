@@ -1,20 +1,20 @@
 // Document 01's text of a run: the header and a line a tick, written into buffers that the caller lends.
 // No public function here has a `requires`.
-mod line;
 mod lines;
-mod text;
 
-use line::titles;
+use line::header_line;
 use lines::lines;
-use printed::Listed;
+use listing_rules::Listed;
 use rules::Plan;
 use rules::Verdict;
 use rules::Yard;
-use text::word;
 ghost use mathlib.Core.Path.{_≡_};
 ghost use Prim.Native.Nat.{_+_};
 ghost use lib.ListN.{length};
-ghost use Rattle.printed.specs.Listing.{headerWritten, headerBuffer, listAnswer, listBuffer};
+ghost use Rattle.listing_rules.specs.Listing.{headerWritten, headerBuffer, listAnswer, listBuffer};
+
+// No line is longer, the header neither: one is begun only where so many bytes of room are left.
+pub const LINE_ROOM: usize = 64;
 
 // The header for n devices, from `at` on; it answers where the header ends. With more than 8 devices, or with fewer than
 // 64 bytes of room behind `at`, it writes nothing and answers `at`.
@@ -25,15 +25,13 @@ pub fn header(n: u16, out: &mut [u8], at: usize) -> usize
     if 8 < n {
         return at;
     }
-    if out.len() < 64 {
+    if out.len() < LINE_ROOM {
         return at;
     }
-    if out.len() - 64 < at {
+    if out.len() - LINE_ROOM < at {
         return at;
     }
-    let a = word(b"tick sup", out, at);
-    let b = titles(n, out, a);
-    word(b" down\n", out, b)
+    header_line(n, out, at)
 }
 
 // The lines of a roll's ticks from the state it is given, numbered from first + 1: as many ticks as have room, each begun
@@ -45,9 +43,7 @@ pub fn list(p: Plan, y: Yard, roll: &[u8], first: u32, out: &mut [u8]) -> Listed
     ensures { λ r. ⌜ r ≡ listAnswer p y (now (roll .entry)) first (length (now (out .entry))) ⌝ }
     ensures { λ r. ⌜ now (out .exit) ≡ listBuffer p y (now (roll .entry)) first (now (out .entry)) ⌝ }
 {
-    let mut engaged = [0u8; 1];
-    let ran = yard::run(p, y, roll, 0, &mut engaged);
-    let verdict = ran.verdict;
+    let verdict = refusals::roll_verdict(p, y, roll);
     let Verdict::Accepted = verdict else {
         return Listed {
             verdict,

@@ -1,4 +1,3 @@
 pub mod Least
 pub mod Lines
 pub mod Verdict
-pub mod Determined

@@ -16,7 +16,7 @@ use Rattle.rules.specs.Plan.{slot, LS, emptySlot}
 use Rattle.rules.specs.Table.{table, broken, lineVerdict, planVerdict}
 use Rattle.rules.proofs.Answers.{none-refused, refused-at}
 use Rattle.rules.proofs.Plans.Table.{slot-at, accepted-line, refused-line}
-use Rattle.plan.specs.Lines.{stayOf, sizeHolds, yardLine, slotLine, placeAfter}
+use Rattle.plan.specs.Lines.{sizeHolds, yardLine, slotLine, placeAfter}
 use Rattle.plan.proofs.Least.{least, leastAt, Least, least-is, least-cong}
 use Rattle.plan.proofs.Lines.{firstOf, firstLine, yard-first, slot-first, not-first, wrong-size, few}
 
@@ -155,17 +155,14 @@ module _ (p : Plan) where
   -- The same, said of the numbers that the check holds when its loop has ended.
   module _
       (ls y k line at : ℕ)
-      (ls-is : ls ≡ stayOf (getD (p .slots) 0 emptySlot))
+      (ls-is : ls ≡ LS p)
       (y-is : y ≡ yardLine (p .N) (p .W) (p .B) (p .Q) ls)
       (all : k ≡ 8)
       (line-is : line ≡ least (found (p .N) (p .W) (p .slots) ls y) k)
       (at-is : at ≡ leastAt (found (p .N) (p .W) (p .slots) ls y) k)
     where
-      long : ls ≡ LS p
-      long = ls-is ∙ ap stayOf (slot-at p 0)
-
       same : found (p .N) (p .W) (p .slots) ls y ≡ finds
-      same = rw (y-is, long)
+      same = rw (y-is, ls-is)
 
       line-found : line ≡ least finds 8
       line-found = line-is ∙ rw (same, all)

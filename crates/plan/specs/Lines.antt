@@ -4,11 +4,7 @@ use Prim.Native.Nat.{ℕ, _+_, _-_, _*_}
 use mathlib.Core.Bool.{Bool, not, _&&_, cond}
 use lib.Dec.{leb, ltb, eqb}
 use Rattle.rules.specs.declared.Slot.{Slot}
-use Rattle.rules.specs.Plan.{isTime}
-
--- E + R + X of a slot.
-abbrev pub stayOf : Slot → ℕ
-stayOf s = s .E + s .R + s .X
+use Rattle.rules.specs.Plan.{stayOf, isTime}
 
 -- N is 2 to 8.
 abbrev pub sizeHolds : ℕ → Bool

@@ -2,6 +2,8 @@
 //
 // Every index is looked at once: 0 for the yard, 1 to N for the devices, above N for the unused slots. At each, the lines
 // that are asked there are tried in the table's order. The verdict is the lowest line found, at the first index that has it.
+use lease::lease_length;
+use lease::stay;
 use numbers::widths::broad;
 use rules::Plan;
 use rules::Slot;
@@ -10,19 +12,12 @@ ghost use mathlib.Core.Path.{_≡_};
 ghost use Prim.Native.Nat.{_*_, _≤_, _<_};
 ghost use Rattle.rules.specs.Plan.{isTime};
 ghost use Rattle.rules.specs.Table.{planVerdict};
-ghost use Rattle.plan.specs.Lines.{stayOf, sizeHolds, yardTimes, deviceTimes, pairTimes, noSpacing, allZero, c2Holds, c3Holds, c4Holds, c5Holds, c6Holds, c7Holds, yardLine, pairLine, lastLine, unusedLine, slotLine, placeAfter};
+ghost use Rattle.plan.specs.Lines.{sizeHolds, yardTimes, deviceTimes, pairTimes, noSpacing, allZero, c2Holds, c3Holds, c4Holds, c5Holds, c6Holds, c7Holds, yardLine, pairLine, lastLine, unusedLine, slotLine, placeAfter};
 
 fn product(a: u16, b: u16) -> u32
     ensures { λ r. ⌜ r ≡ a * b ⌝ }
 {
     broad(a) * broad(b)
-}
-
-// E + R + X of a slot.
-fn stay(s: Slot) -> u32
-    ensures { λ r. ⌜ (r ≡ stayOf s) × (r < 196608) ⌝ }
-{
-    broad(s.E) + broad(s.R) + broad(s.X)
 }
 
 // A time that a plan may hold.
@@ -204,7 +199,7 @@ pub fn check(p: Plan) -> Verdict
     let n = p.N;
     let w = p.W;
     let slots = p.slots;
-    let ls = stay(slots[0]);
+    let ls = lease_length(p);
     let mut line = yard_line(n, w, p.B, p.Q, ls);
     let mut at: usize = 0;
     let mut k: usize = 0;

@@ -1,32 +1,20 @@
 // The body: N, W, B, Q, then six times for each device, two bytes each. It is read here, and written.
-use crate::ReadAnswer;
-use crate::answer;
-use crate::empty_plan;
+use file_answers::answer;
+use file_answers::empty_plan;
 use numbers::read::two_at;
 use numbers::write::put_two;
+use planfile_rules::ReadAnswer;
 use rules::Plan;
 use rules::Slot;
+use slots::put_slot;
+use slots::slot_in;
 use trailer::refusal;
 ghost use mathlib.Core.Path.{_≡_};
 ghost use Prim.Native.Nat.{_+_, _*_, _≤_};
 ghost use lib.ListN.{length};
 ghost use Rattle.laws.specs.Written.{Written};
-ghost use Rattle.files.specs.File.{slotIn, slotsIn, planIn, bodyVerdict, answerOf};
-ghost use Rattle.files.specs.Writing.{slotBytes, slotsBytes, bodyBytes};
-
-// A device's six times, from its twelve bytes.
-fn slot_in(twelve: &[u8]) -> Slot
-    ensures { λ r. ⌜ r ≡ slotIn (now (twelve .entry)) 0 ⌝ }
-{
-    Slot {
-        F: two_at(twelve, 0),
-        E: two_at(twelve, 2),
-        R: two_at(twelve, 4),
-        X: two_at(twelve, 6),
-        G: two_at(twelve, 8),
-        S: two_at(twelve, 10),
-    }
-}
+ghost use Rattle.planfile_rules.specs.File.{slotsIn, planIn, bodyVerdict, answerOf};
+ghost use Rattle.planfile_rules.specs.Writing.{slotsBytes, bodyBytes};
 
 // The slots of n devices; those above n stay all zero. Each is read from a part that is just its own: where the length of a
 // slice is plain, no byte has to be looked for.
@@ -70,18 +58,6 @@ pub(crate) fn read_body(body: &[u8], n: u16) -> ReadAnswer
     }
     let plan = plan_in(body, n as usize);
     answer(plan::check(plan), plan)
-}
-
-// A device's six times, into its twelve bytes.
-fn put_slot(s: Slot, twelve: &mut [u8])
-    ensures { λ r. ⌜ Written (now (twelve .entry)) 0 (slotBytes s) (now (twelve .exit)) 12 ⌝ }
-{
-    put_two(s.F, twelve, 0);
-    put_two(s.E, twelve, 2);
-    put_two(s.R, twelve, 4);
-    put_two(s.X, twelve, 6);
-    put_two(s.G, twelve, 8);
-    put_two(s.S, twelve, 10);
 }
 
 // The slots of the first n devices, each where a body has it, and written into a part that is just its own.

@@ -5,62 +5,25 @@
 // file from wherever the trailer says, handed on to be read.
 mod body;
 
-use files::ReadAnswer;
-use files::Span;
-use files::WriteAnswer;
+use file_answers::answer;
+use file_answers::empty_plan;
+use file_answers::write_verdict;
+use planfile_rules::ReadAnswer;
+use planfile_rules::Span;
+use planfile_rules::WriteAnswer;
 use rules::Plan;
-use rules::Slot;
 use rules::Verdict;
 use trailer::devices_for;
 use trailer::judge;
 use trailer::put_trailer;
-use trailer::refusal;
 use trailer::trailer_for;
 use trailer::trailer_of;
 ghost use mathlib.Core.Path.{_≡_};
 ghost use mathlib.Core.List.{_++_};
 ghost use lib.ListN.{length, take, drop};
 ghost use Rattle.rules.specs.declared.Verdict.the-variants as verdict;
-ghost use Rattle.rules.specs.Verdict.{firstOf};
-ghost use Rattle.files.specs.File.{emptyPlan, answerOf, readAnswer, bodySpan, wholePlan};
-ghost use Rattle.files.specs.Writing.{fileBytes, roomVerdict, writeVerdict, writeAnswer, writeBuffer, ReadAs, WithoutNotes, planWritten};
-
-pub(crate) fn empty_plan() -> Plan
-    ensures { λ r. ⌜ r ≡ emptyPlan ⌝ }
-{
-    let slot = Slot {
-        F: 0,
-        E: 0,
-        R: 0,
-        X: 0,
-        G: 0,
-        S: 0,
-    };
-    Plan {
-        N: 0,
-        W: 0,
-        B: 0,
-        Q: 0,
-        slots: [slot; 8],
-    }
-}
-
-// A verdict beside the plan that was read, or beside an all-zero plan where it refuses.
-pub(crate) fn answer(v: Verdict, plan: Plan) -> ReadAnswer
-    ensures { λ r. ⌜ r ≡ answerOf v plan ⌝ }
-{
-    let empty = empty_plan();
-    match v {
-        Verdict::Accepted => ReadAnswer { verdict: v, plan },
-        Verdict::Refused {
-            number: _,
-            index: _,
-        } => ReadAnswer {
-            verdict: v,
-            plan: empty,
-        },
-    }
-}
+ghost use Rattle.planfile_rules.specs.File.{readAnswer, bodySpan, wholePlan};
+ghost use Rattle.planfile_rules.specs.Writing.{fileBytes, writeAnswer, writeBuffer, ReadAs, WithoutNotes, planWritten};
 
 // The verdict on a file beside the plan that it holds. A refused file gives an all-zero plan. Writing what was read from a
 // file without notes gives its bytes back.
@@ -99,38 +62,6 @@ pub fn body_span(file: &[u8]) -> Span
     }
 }
 
-// 20 where a buffer of so many bytes is shorter than the file of n devices.
-fn room_verdict(n: u16, room: usize) -> Verdict
-    ensures { λ r. ⌜ r ≡ roomVerdict n room ⌝ }
-{
-    let devices = n as usize;
-    if room < 18 + 12 * devices {
-        return refusal(20);
-    }
-    Verdict::Accepted
-}
-
-// The first of two verdicts that refuses.
-fn first_of(v: Verdict, w: Verdict) -> Verdict
-    ensures { λ r. ⌜ r ≡ firstOf v w ⌝ }
-{
-    match v {
-        Verdict::Accepted => w,
-        Verdict::Refused {
-            number: _,
-            index: _,
-        } => v,
-    }
-}
-
-fn write_verdict(p: Plan, room: usize) -> Verdict
-    ensures { λ r. ⌜ r ≡ writeVerdict p room ⌝ }
-{
-    let checked = plan::check(p);
-    let fits = room_verdict(p.N, room);
-    first_of(checked, fits)
-}
-
 // Writes an accepted plan as a file, at the front of a buffer: body first, trailer straight after it, no notes. The answer
 // has the length written; bytes past that stay. A refusal writes no byte, and answers 0. Reading what was written gives the
 // plan back.
@@ -156,26 +87,28 @@ pub fn write(p: Plan, file: &mut [u8]) -> WriteAnswer
     }
 }
 
-// The plan in 104 bytes: a body with all eight slots, those above N included, as callers in other languages lend it. It is
+pub const PLAN_SIZE: usize = 104;
+
+// The plan in so many bytes: a body with all eight slots, those above N included, as callers in other languages lend it. It is
 // not checked. Of another length, an all-zero plan, which the check refuses.
 pub fn whole_plan(bytes: &[u8]) -> Plan
     ensures { λ r. ⌜ r ≡ wholePlan (now (bytes .entry)) ⌝ }
 {
-    if bytes.len() != 104 {
+    if bytes.len() != PLAN_SIZE {
         return empty_plan();
     }
     body::plan_in(bytes, 8)
 }
 
-// Those 104 bytes, at the front of a buffer; the answer is how many bytes were written, none in a shorter buffer. Later bytes
+// Those bytes, at the front of a buffer; the answer is how many bytes were written, none in a shorter buffer. Later bytes
 // keep their value.
 pub fn put_whole_plan(p: Plan, out: &mut [u8]) -> usize
     ensures { λ r. ⌜ r ≡ length (planWritten p (length (now (out .entry)))) ⌝ }
     ensures { λ r. ⌜ now (out .exit) ≡ planWritten p (length (now (out .entry))) ++ drop r (now (out .entry)) ⌝ }
 {
-    if out.len() < 104 {
+    if out.len() < PLAN_SIZE {
         return 0;
     }
     body::put_body(p, 8, out);
-    104
+    PLAN_SIZE
 }

@@ -71,14 +71,14 @@ fn say_lines(p: Plan, fresh: Yard, roll: &[u8]) {
             break;
         }
         y = next;
-        from = std::num::wrapping_add_usize(from, 4 * ticks);
+        from = std::num::wrapping_add_usize(from, rolls::record_start(rest, ticks));
         first = std::num::wrapping_add_u32(first, ticks as u32);
         turns -= 1;
     }
 }
 
 fn say_header(n: u16) {
-    let mut block = [0u8; 64];
+    let mut block = [0u8; listing::LINE_ROOM];
     let len = listing::header(n, &mut block, 0);
     say_first(&block, len);
 }
@@ -87,9 +87,7 @@ fn say_header(n: u16) {
 fn show_roll(p: Plan, roll: &[u8]) {
     let start = yard::fresh(p);
     let y = start.yard;
-    let mut none = [0u8; 1];
-    let ran = yard::run(p, y, roll, 0, &mut none);
-    let verdict = ran.verdict;
+    let verdict = refusals::roll_verdict(p, y, roll);
     match verdict {
         Verdict::Refused { number, index } => refuse(number, index),
         Verdict::Accepted => {
@@ -109,13 +107,13 @@ fn show(file: &[u8], roll: &[u8]) {
     }
 }
 
-// One byte more than the longest plan file, so that a longer one is seen to be too long; of the roll the first 40,000 bytes,
-// 10,000 ticks.
-pub fn rehearse() {
+// The same of any two files. Of the plan file one byte more than the longest, so that a longer one is seen to be too long; of
+// the roll the first 40,000 bytes, 10,000 ticks.
+pub fn rehearse_files(plan_path: &[u8], roll_path: &[u8]) {
     let mut file = [0u8; 65537];
     let mut roll = [0u8; 40000];
-    let file_len = load(b"yard.plan", &mut file);
-    let roll_len = load(b"yard.roll", &mut roll);
+    let file_len = load(plan_path, &mut file);
+    let roll_len = load(roll_path, &mut roll);
     if file.len() < file_len {
         return;
     }
@@ -123,4 +121,8 @@ pub fn rehearse() {
         return;
     }
     show(&file[0..file_len], &roll[0..roll_len]);
+}
+
+pub fn rehearse() {
+    rehearse_files(b"yard.plan", b"yard.roll");
 }

@@ -1,22 +1,57 @@
-// A roll of records, four bytes each: the record at a place, and whether records are valid (refusal 10). No public function
-// here has a `requires`.
+// A roll of records: how many it has, where they start, the record at a place, and whether records are valid (refusal 10). The
+// width of a record stands here alone. No public function here has a `requires`.
 use numbers::read::byte_at;
 use rules::Plan;
 use rules::Record;
 ghost use mathlib.Core.Path.{_≡_};
-ghost use mathlib.Core.Bool.{not};
-ghost use Prim.Native.Nat.{_-_};
-ghost use Rattle.laws.specs.Tests.{lowest};
+ghost use Prim.Native.Nat.{_-_, min};
 ghost use Rattle.rules.specs.declared.Plan.{Plan};
 ghost use Rattle.rules.specs.Tick.Input.{validRecord};
-ghost use Rattle.rules.specs.Run.{records, recordAt};
+ghost use Rattle.rules.specs.Run.{records, leftOver, ticksToDo, recordStart, recordAt, firstBad};
 ghost use Rattle.rolls.specs.Bounds.{Bound};
 
+pub const RECORD_SIZE: usize = 4;
+
+pub fn records(roll: &[u8]) -> usize
+    ensures { λ r. ⌜ r ≡ records (now (roll .entry)) ⌝ }
+{
+    roll.len() / RECORD_SIZE
+}
+
+// The bytes behind the last whole record.
+pub fn left_over(roll: &[u8]) -> usize
+    ensures { λ r. ⌜ r ≡ leftOver (now (roll .entry)) ⌝ }
+{
+    roll.len() % RECORD_SIZE
+}
+
+// The ticks that a run is to do: the smaller of budget and records.
+pub fn ticks_to_do(roll: &[u8], budget: usize) -> usize
+    ensures { λ r. ⌜ r ≡ ticksToDo (now (roll .entry)) budget ⌝ }
+{
+    let count = records(roll);
+    if budget < count {
+        return budget;
+    }
+    count
+}
+
+// Where record k starts, counted from 0; from the last on, where that one ends.
+pub fn record_start(roll: &[u8], k: usize) -> usize
+    ensures { λ r. ⌜ r ≡ recordStart (min k (records (now (roll .entry)))) ⌝ }
+{
+    let count = records(roll);
+    if k < count {
+        return RECORD_SIZE * k;
+    }
+    RECORD_SIZE * count
+}
+
 // What stands behind the last whole record: the bytes left over, and then zeros.
-fn left_over(roll: &[u8]) -> Record
+fn record_left_over(roll: &[u8]) -> Record
     ensures { λ r. ⌜ r ≡ recordAt (now (roll .entry)) (records (now (roll .entry))) ⌝ }
 {
-    let at = 4 * (roll.len() / 4);
+    let at = RECORD_SIZE * records(roll);
     Record {
         command: byte_at(roll, at),
         flags: byte_at(roll, at + 1),
@@ -29,9 +64,9 @@ fn left_over(roll: &[u8]) -> Record
 pub fn record_at(roll: &[u8], k: usize) -> Record
     ensures { λ r. ⌜ r ≡ recordAt (now (roll .entry)) k ⌝ }
 {
-    let count = roll.len() / 4;
+    let count = records(roll);
     if k < count {
-        let at = 4 * k;
+        let at = RECORD_SIZE * k;
         return Record {
             command: roll[at],
             flags: roll[at + 1],
@@ -40,7 +75,7 @@ pub fn record_at(roll: &[u8], k: usize) -> Record
         };
     }
     if k == count {
-        return left_over(roll);
+        return record_left_over(roll);
     }
     Record {
         command: 0,
@@ -83,11 +118,11 @@ pub fn valid_record(p: Plan, r: Record) -> bool
 // The first record of a roll that this plan's yard does not take, counted from 0; the number of its records where it takes
 // them all. Bytes left over behind the last whole record are not looked at.
 pub fn first_bad(p: Plan, roll: &[u8]) -> usize
-    ensures { λ r. ⌜ r ≡ lowest (λ k. not (validRecord p (recordAt (now (roll .entry)) k))) (records (now (roll .entry))) ⌝ }
+    ensures { λ r. ⌜ r ≡ firstBad p (now (roll .entry)) ⌝ }
 {
     let willing = bound(less(p.N, 1));
     let lost = bound(p.N);
-    let count = roll.len() / 4;
+    let count = records(roll);
     let mut k: usize = 0;
     while k < count {
         if !within(willing, lost, record_at(roll, k)) {

@@ -34,6 +34,15 @@ pub first-accepted : (v w : Verdict) → firstOf v w ≡ Accepted → (v ≡ Acc
 first-accepted Accepted w e = (refl, e)
 first-accepted (Refused k i) w e = not-both e refl
 
+-- The first refusal of two and then of the rest.
+pub two-then :
+    (a b : Verdict) (vs : List Verdict) {v : Verdict} → v ≡ firstRefusal (a ∷ b ∷ [])
+    → firstRefusal (a ∷ b ∷ vs) ≡ firstOf v (firstRefusal vs)
+unfolding firstRefusal
+two-then Accepted Accepted vs e = rw e
+two-then Accepted (Refused k i) vs e = rw e
+two-then (Refused k i) b vs e = rw e
+
 first-last : (vs : List Verdict) (v : Verdict) → firstRefusal (vs ++ (v ∷ [])) ≡ firstOf (firstRefusal vs) v
 unfolding firstRefusal
 first-last [] Accepted = refl

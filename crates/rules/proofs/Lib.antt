@@ -2,6 +2,7 @@
 -- Under Promises, those of specs/Promises.antt.
 pub mod Cases
 pub mod Answers
+pub mod Numbers
 pub mod Plans
 pub mod States
 pub mod Ticks

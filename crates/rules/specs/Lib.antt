@@ -1,6 +1,7 @@
 pub mod Plan
 pub mod Verdict
 pub mod Table
+pub mod Numbers
 pub mod Yard
 pub mod Tick
 pub mod Run

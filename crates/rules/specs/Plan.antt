@@ -18,9 +18,12 @@ emptySlot = record { F = 0; E = 0; R = 0; X = 0; G = 0; S = 0 }
 unfoldable pub slot : Plan → ℕ → Slot
 slot p i = getD (p .slots) (i - 1) emptySlot
 
--- E + R + X of device i.
+-- E + R + X of a slot, and of device i.
+abbrev pub stayOf : Slot → ℕ
+stayOf s = s .E + s .R + s .X
+
 abbrev pub stay : Plan → ℕ → ℕ
-stay p i = slot p i .E + slot p i .R + slot p i .X
+stay p i = stayOf (slot p i)
 
 -- LS = E1 + R1 + X1.
 abbrev pub LS : Plan → ℕ

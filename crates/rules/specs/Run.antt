@@ -17,17 +17,28 @@ use Rattle.rules.specs.Yard.{device, engaged, stateVerdict}
 use Rattle.rules.specs.Tick.Input.{validRecord}
 use Rattle.rules.specs.Tick.{tick}
 
--- The records of a roll, four bytes each, and the record at k, counted from 0.
+-- A record is four bytes.
+abbrev pub recordSize : ℕ
+recordSize = 4
+
+-- How many records a roll has, and how many bytes are left over behind the last.
 abbrev pub records : List ℕ → ℕ
-records roll = length roll / 4
+records roll = length roll / recordSize
+
+abbrev pub leftOver : List ℕ → ℕ
+leftOver roll = length roll % recordSize
+
+-- Where record k starts, counted from 0, and the record.
+abbrev pub recordStart : ℕ → ℕ
+recordStart k = recordSize * k
 
 unfoldable pub recordAt : List ℕ → ℕ → Record
 recordAt roll k =
     record {
-      command = getD roll (4 * k) 0;
-      flags = getD roll (4 * k + 1) 0;
-      willing = getD roll (4 * k + 2) 0;
-      lost = getD roll (4 * k + 3) 0;
+      command = getD roll (recordStart k) 0;
+      flags = getD roll (recordStart k + 1) 0;
+      willing = getD roll (recordStart k + 2) 0;
+      lost = getD roll (recordStart k + 3) 0;
     }
 
 -- The state after the first k ticks of a roll.
@@ -50,28 +61,27 @@ ticksToDo roll budget = min budget (records roll)
 
 -- Roll length not a multiple of 4 (12, index 0).
 abbrev pub lengthVerdict : List ℕ → Verdict
-lengthVerdict roll = refusedIf (not (eqb (length roll % 4) 0)) 12 0
+lengthVerdict roll = refusedIf (not (eqb (leftOver roll) 0)) 12 0
+
+-- The first record that is not valid, counted from 0; the number of records where there is none.
+abbrev pub firstBad : Plan → List ℕ → ℕ
+firstBad p roll = lowest (λ k. not (validRecord p (recordAt roll k))) (records roll)
 
 -- Any bad record in the whole roll (10, first): its index is the tick's number in the roll from 1.
-unfoldable pub rollVerdict : Plan → List ℕ → Verdict
-rollVerdict p roll =
-    let k = lowest (λ k. not (validRecord p (recordAt roll k))) (records roll) in
-    refusedIf (ltb k (records roll)) 10 (k + 1)
+unfoldable pub recordsVerdict : Plan → List ℕ → Verdict
+recordsVerdict p roll = refusedIf (ltb (firstBad p roll) (records roll)) 10 (firstBad p roll + 1)
+
+-- A roll is refused in this order: plan (1 to 9), state (11), roll length (12), records (10).
+unfoldable pub rollVerdict : Plan → Yard → List ℕ → Verdict
+rollVerdict p y roll = firstRefusal (planVerdict p ∷ stateVerdict p y ∷ lengthVerdict roll ∷ recordsVerdict p roll ∷ [])
 
 -- Buffer shorter than the ticks to do (13, index 0).
 abbrev pub bufferVerdict : List ℕ → ℕ → List ℕ → Verdict
 bufferVerdict roll budget buffer = refusedIf (ltb (length buffer) (ticksToDo roll budget)) 13 0
 
--- Refused in this order: plan (1 to 9), state (11), roll length (12), records (10), buffer (13).
+-- A run is refused as its roll is, and then for its buffer (13).
 unfoldable pub runVerdict : Plan → Yard → List ℕ → ℕ → List ℕ → Verdict
-runVerdict p y roll budget buffer =
-    firstRefusal
-    (planVerdict p
-    ∷ stateVerdict p y
-    ∷ lengthVerdict roll
-    ∷ rollVerdict p roll
-    ∷ bufferVerdict roll budget buffer
-    ∷ [])
+runVerdict p y roll budget buffer = firstRefusal (rollVerdict p y roll ∷ bufferVerdict roll budget buffer ∷ [])
 
 -- The ticks done: none when refused.
 abbrev pub ticksDone : Verdict → List ℕ → ℕ → ℕ

@@ -5,19 +5,25 @@ use mathlib.Core.Path.{_≡_}
 use mathlib.Core.Logic.{_↔_, _⊎_}
 use mathlib.Core.Bool.{true, false}
 use mathlib.Core.List.{List, map, _++_}
-use lib.ListN.{drop}
+use lib.ListN.{length, drop}
 use Rattle.laws.specs.Bits.{bit}
 use Rattle.rules.specs.declared.Plan.{Plan}
 use Rattle.rules.specs.declared.Yard.{Yard}
 use Rattle.rules.specs.declared.Record.{Record}
-use Rattle.rules.specs.declared.Place.the-variants.{Running, Exiting1}
+use Rattle.rules.specs.declared.Base.{Base}
+use Rattle.rules.specs.declared.Base.the-variants as base
+use Rattle.rules.specs.declared.Place.{Place}
+use Rattle.rules.specs.declared.Place.the-variants as place
+use Rattle.rules.specs.declared.Letter.{Letter}
+use Rattle.rules.specs.declared.Letter.the-variants as letter
 use Rattle.rules.specs.declared.Verdict.the-variants.{Accepted, Refused}
 use Rattle.rules.specs.Plan.{slot, stay, LS, emptySlot}
 use Rattle.rules.specs.Table.{broken, planVerdict}
-use Rattle.rules.specs.Yard.{device, wellFormed}
+use Rattle.rules.specs.Numbers.{placeNumber, placeOf, letterNumber, letterOf, baseNumber, baseIndex, baseOf}
+use Rattle.rules.specs.Yard.{device, engaged, freshYard, wellFormed}
 use Rattle.rules.specs.Tick.{tick}
 use Rattle.rules.specs.Tick.Input.{validRecord}
-use Rattle.rules.specs.Run.{after, engagedByte, engagedBytes}
+use Rattle.rules.specs.Run.{recordStart, after, engagedByte, engagedBytes}
 use Rattle.rules.specs.Worked.{Case, answer, starred}
 
 -- All times are whole ticks, 1 to 36,000.
@@ -68,6 +74,24 @@ RefusedExactly = (p : Plan) (k i : ℕ) → (planVerdict p ≡ Refused k i) ↔ 
 abbrev pub WorkedYards : Type 0
 WorkedYards = map (λ (c : Case). answer (c .question)) starred ≡ map (λ (c : Case). c .says) starred
 
+-- A fresh yard, field by field: base and devices in Fall-Back, every clock 0, no letter waits, nobody is engaged
+-- (`fresh-exactly`).
+pub record FreshExactly : Type 0 where
+  pub base : freshYard .base ≡ base.FallBack
+  pub clock : freshYard .clock ≡ 0
+  pub lease : freshYard .lease ≡ 0
+  pub eight : length (freshYard .devices) ≡ 8
+  pub places : (i : ℕ) → 1 ≤ i → i ≤ 8 → device freshYard i .place ≡ place.FallBack
+  pub clocks : (i : ℕ) → 1 ≤ i → i ≤ 8 → device freshYard i .clock ≡ 0
+  pub letters : (i : ℕ) → 1 ≤ i → i ≤ 8 → device freshYard i .letter ≡ letter.None
+  pub nobody : (i : ℕ) → 1 ≤ i → i ≤ 8 → engaged (device freshYard i .place) ≡ false
+
+-- Nothing is lost in the numbers of places, letters and bases: each is had back (`vocabulary-back`).
+pub record VocabularyBack : Type 0 where
+  pub places : (a : Place) → placeOf (placeNumber a) ≡ a
+  pub letters : (a : Letter) → letterOf (letterNumber a) ≡ a
+  pub bases : (b : Base) → baseOf (baseNumber b) (baseIndex b) ≡ b
+
 -- Under an accepted plan a tick keeps a well-formed state well formed: any such state, not only a reachable one, and on
 -- any record, valid or not (`tick-keeps-form`).
 abbrev pub TickKeepsForm : Type 0
@@ -78,9 +102,9 @@ TickKeepsForm =
 abbrev pub RunSplits : Type 0
 RunSplits =
     (p : Plan) (y : Yard) (roll : List ℕ) (a b : ℕ)
-    → (after p y roll (a + b) ≡ after p (after p y roll a) (drop (4 * a) roll) b)
+    → (after p y roll (a + b) ≡ after p (after p y roll a) (drop (recordStart a) roll) b)
     × (engagedBytes p y roll (a + b)
-    ≡ engagedBytes p y roll a ++ engagedBytes p (after p y roll a) (drop (4 * a) roll) b)
+    ≡ engagedBytes p y roll a ++ engagedBytes p (after p y roll a) (drop (recordStart a) roll) b)
 
 -- Bit i-1 of a tick's byte is set exactly when device i stands in Running or in Exiting 1; bits N and up are not set
 -- (`engaged-exactly`).
@@ -88,7 +112,7 @@ abbrev pub EngagedExactly : Type 0
 EngagedExactly =
     (p : Plan) (y : Yard)
     → ((i : ℕ) → 1 ≤ i → i ≤ p .N
-    → (bit (engagedByte p y) (i - 1) ≡ true) ↔ ((device y i .place ≡ Running) ⊎ (device y i .place ≡ Exiting1)))
+    → (bit (engagedByte p y) (i - 1) ≡ true) ↔ ((device y i .place ≡ place.Running) ⊎ (device y i .place ≡ place.Exiting1)))
     × ((k : ℕ) → p .N ≤ k → bit (engagedByte p y) k ≡ false)
 
 -- What document 01 asks of a record.

@@ -17,25 +17,9 @@ use Rattle.rules.specs.declared.Device.{Device}
 use Rattle.rules.specs.declared.Yard.{Yard}
 use Rattle.rules.specs.declared.FreshAnswer.{FreshAnswer}
 use Rattle.rules.specs.Verdict.{refusedIf}
+use Rattle.rules.specs.Numbers.{placeNumber, letterNumber}
 use Rattle.rules.specs.Plan.{slot, LS, isDevice, isParticipant}
 use Rattle.rules.specs.Table.{planVerdict}
-
--- A number for each place and each letter, so that two of them can be compared.
-abbrev pub placeNumber : Place → ℕ
-placeNumber place.FallBack = 0
-placeNumber place.Requesting = 1
-placeNumber place.Entering = 2
-placeNumber place.Running = 3
-placeNumber place.Exiting1 = 4
-placeNumber place.Exiting2 = 5
-
-abbrev pub letterNumber : Letter → ℕ
-letterNumber letter.None = 0
-letterNumber letter.Request = 1
-letterNumber letter.Cancel = 2
-letterNumber letter.Approve = 3
-letterNumber letter.Deny = 4
-letterNumber letter.Exit = 5
 
 abbrev pub samePlace : Place → Place → Bool
 samePlace a b = eqb (placeNumber a) (placeNumber b)
@@ -46,6 +30,20 @@ sameLetter a b = eqb (letterNumber a) (letterNumber b)
 -- Each device holds its place, its clock and at most one letter waiting to go up.
 abbrev pub at : Place → ℕ → Letter → Device
 at place clock letter = record { clock = clock; place = place; letter = letter }
+
+-- A device changes in these ways and keeps the rest of itself. It goes to a place, where its clock starts at 0; it writes a
+-- letter; it does both; its clock comes to a count. Where nothing changes it stays `d`.
+abbrev pub goesTo : Place → Device → Device
+goesTo place d = record { clock = 0; place = place; letter = d .letter }
+
+abbrev pub writes : Letter → Device → Device
+writes letter d = record { clock = d .clock; place = d .place; letter = letter }
+
+abbrev pub goesWriting : Place → Letter → Device → Device
+goesWriting place letter d = writes letter (goesTo place d)
+
+abbrev pub clockAt : ℕ → Device → Device
+clockAt clock d = record { clock = clock; place = d .place; letter = d .letter }
 
 abbrev pub freshDevice : Device
 freshDevice = at place.FallBack 0 letter.None

@@ -1,7 +1,6 @@
 // Whether a state is well formed (refusal 11). It takes any plan and any state; no public function here has a `requires`.
-use numbers::widths::broad;
+use lease::lease_length;
 use numbers::widths::wide;
-use packed::place_number;
 use rules::Base;
 use rules::Device;
 use rules::Letter;
@@ -9,6 +8,7 @@ use rules::Place;
 use rules::Plan;
 use rules::Slot;
 use rules::Yard;
+use vocabulary::place_number;
 ghost use mathlib.Core.Path.{_≡_};
 ghost use Prim.Native.Nat.{_≤_};
 ghost use Rattle.rules.specs.Plan.{slot, LS, isDevice, isParticipant};
@@ -53,14 +53,6 @@ fn clock_formed(p: Plan, base: Base, clock: u16) -> bool
         Base::Cancel(_) => clock == 0,
         Base::Abort(_) => clock == 0,
     }
-}
-
-fn lease_length(p: Plan) -> u32
-    ensures { λ r. ⌜ r ≡ LS p ⌝ }
-{
-    let slots = p.slots;
-    let s = slots[0];
-    broad(s.E) + broad(s.R) + broad(s.X)
 }
 
 fn lease_formed(p: Plan, base: Base, lease: u32) -> bool

@@ -1,19 +1,19 @@
 // A plan file's trailer, its last ten bytes: read as numbers, judged as numbers, and written. It takes any bytes and any
 // buffer; no function here has a `requires`.
-use files::Trailer;
 use numbers::read::four_at;
 use numbers::read::two_at;
 use numbers::widths::broad;
 use numbers::widths::wide;
 use numbers::write::put_four;
 use numbers::write::put_two;
+use planfile_rules::Trailer;
 use rules::Verdict;
 ghost use mathlib.Core.Path.{_≡_};
 ghost use Prim.Native.Nat.{_+_};
 ghost use Rattle.laws.specs.Written.{Written};
 ghost use Rattle.rules.specs.declared.Verdict.the-variants as verdict;
-ghost use Rattle.files.specs.File.{trailerIn, trailerOf, devicesFor, isBodySize, trailerVerdict};
-ghost use Rattle.files.specs.Writing.{trailerBytes, trailerFor};
+ghost use Rattle.planfile_rules.specs.File.{trailerIn, trailerOf, devicesFor, isBodySize, trailerVerdict};
+ghost use Rattle.planfile_rules.specs.Writing.{trailerBytes, trailerFor};
 
 // The bytes 59 50 hex, little-endian.
 const MARK: u16 = 0x5059;

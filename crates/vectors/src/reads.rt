@@ -15,9 +15,7 @@ fn verdict(file: &[u8], roll: &[u8]) -> Verdict {
     };
     let start = yard::fresh(p);
     let y = start.yard;
-    let mut none = [0u8; 1];
-    let ran = yard::run(p, y, roll, 0, &mut none);
-    ran.verdict
+    refusals::roll_verdict(p, y, roll)
 }
 
 // The part that should be found, where it lies within what was lent.

@@ -2,6 +2,7 @@
 use crate::input::is_said;
 use crate::input::number_or_zero;
 use libc::STDIN_FILENO;
+use planfile::PLAN_SIZE;
 use rules::Plan;
 use rules::Verdict;
 
@@ -62,8 +63,8 @@ fn written_right(p: Plan, file: &mut [u8], other: &mut [u8]) -> bool {
 
 // The next case: 0 where there is none, 1 where it comes out right, 2 where it does not.
 pub(crate) fn next_write(file: &mut [u8], other: &mut [u8]) -> u8 {
-    let mut plan = [0u8; 104];
-    if io::read_full(STDIN_FILENO, &mut plan) != 104 {
+    let mut plan = [0u8; PLAN_SIZE];
+    if io::read_full(STDIN_FILENO, &mut plan) != PLAN_SIZE {
         return 0;
     }
     let p = planfile::whole_plan(&plan);

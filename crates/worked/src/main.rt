@@ -1,4 +1,5 @@
-// Document 01's worked plans that carry no star: W = 4, G1 = 0, N = 1, N = 9, and the paper's pendulum settings in tenths.
+// Document 01's worked plans that carry no star: W = 4, G1 = 0, N = 1, N = 9, and the paper's pendulum settings in
+// tenths of a second (5 at 0).
 // Each line is number and index.
 use libc::STDOUT_FILENO;
 use rules::Plan;
@@ -43,9 +44,9 @@ fn main() {
     tell(two(
         2,
         1,
-        5,
         1,
-        times(1, 3, 50, 15, 1, 1),
-        times(1, 6, 10, 15, 0, 0),
+        1,
+        times(1, 10, 350, 60, 10, 15),
+        times(1, 30, 200, 15, 0, 0),
     ));
 }

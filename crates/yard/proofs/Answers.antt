@@ -18,12 +18,11 @@ use Rattle.rules.specs.Verdict.{refusedIf, firstRefusal}
 use Rattle.rules.specs.Table.{planVerdict}
 use Rattle.rules.specs.Yard.{freshYard, stateVerdict, wellFormed}
 use Rattle.rules.specs.Tick.{tickVerdict, tickAnswer}
-use Rattle.rules.specs.Run.{recordAt, after, engagedBytes, lengthVerdict, rollVerdict, runVerdict, ticksToDo, runAnswer, runBuffer}
+use Rattle.rules.specs.Run.{recordAt, after, engagedBytes, rollVerdict, runVerdict, ticksToDo, runAnswer, runBuffer}
 use Rattle.rules.proofs.Answers.{first-accepted, accepted-if}
 use Rattle.rules.specs.Promises.{Kept, shown}
 use Rattle.rules.proofs.Promises.Bytes.{bytes-kept}
 use Rattle.yard.specs.Sent.{lastDown}
-use Rattle.yard.specs.Refusals.{verdictFor}
 
 -- A state that is not refused is well formed.
 formed : (p : Plan) (y : Yard) → stateVerdict p y ≡ Accepted → wellFormed p y ≡ true
@@ -59,11 +58,14 @@ module _ (p : Plan) (y : Yard) (r : Record) (v : Verdict) (v-is : v ≡ tickVerd
 
 -- The run. By ticks to do and room its refusals are those by budget and buffer.
 module _ (p : Plan) (y : Yard) (roll : List ℕ) (budget : ℕ) (buffer : List ℕ) (ticks : ℕ) (ticks-is : ticks ≡ ticksToDo roll budget) where
-  same-verdict : verdictFor p y roll ticks (length buffer) ≡ runVerdict p y roll budget buffer
-  unfolding verdictFor runVerdict
+  abbrev refused : Verdict
+  refused = firstRefusal (rollVerdict p y roll ∷ refusedIf (ltb (length buffer) ticks) 13 0 ∷ [])
+
+  same-verdict : refused ≡ runVerdict p y roll budget buffer
+  unfolding runVerdict
   same-verdict = rw ticks-is
 
-  module _ (v : Verdict) (v-is : v ≡ verdictFor p y roll ticks (length buffer)) where
+  module _ (v : Verdict) (v-is : v ≡ refused) where
     pub run-refused :
         (k i : ℕ) → v ≡ Refused k i
         → (record { verdict = v; yard = y; ticks = 0 } ≡ runAnswer p y roll budget buffer)
@@ -74,12 +76,11 @@ module _ (p : Plan) (y : Yard) (roll : List ℕ) (budget : ℕ) (buffer : List �
         (rw (e, q), rw q)
 
     pub run-taken : v ≡ Accepted → (planVerdict p ≡ Accepted) × (wellFormed p y ≡ true) × (ticks ≤ length buffer)
-    unfolding verdictFor firstRefusal
+    unfolding firstRefusal rollVerdict
     run-taken e =
-        let h = first-accepted (planVerdict p) _ (sym v-is ∙ e) in
+        let r = first-accepted (rollVerdict p y roll) _ (sym v-is ∙ e) in
+        let h = first-accepted (planVerdict p) _ (r .0) in
         let s = first-accepted (stateVerdict p y) _ (h .1) in
-        let l = first-accepted (lengthVerdict roll) _ (s .1) in
-        let r = first-accepted (rollVerdict p roll) _ (l .1) in
         let b = first-accepted (refusedIf (ltb (length buffer) ticks) 13 0) _ (r .1) in
         (h .0, formed p y (s .0), ltb-false _ _ (accepted-if _ 13 0 (b .0)))
 

@@ -1,10 +1,8 @@
 pub mod Sweeps
 pub mod Bytes
-pub mod Quiet
-pub mod Pass
-pub mod Keeps
-pub mod OneTick
+pub mod Arrives
 pub mod Ready
+pub mod Pass
+pub mod OneTick
 pub mod Loop
 pub mod Answers
-pub mod Determined

@@ -1,36 +1,37 @@
 -- One tick as this crate computes it is the tick of document 01.
-use Prim.Native.Nat.{ℕ, _-_, _≤_}
+use Prim.Native.Nat.{ℕ, _+_, _-_, _≤_}
+use native.Mathlib.Omega.{arith}
 use mathlib.Core.Path.{_≡_, refl, sym, _∙_, ap}
-use mathlib.Core.Bool.{Bool, cond}
+use mathlib.Core.Bool.{cond}
 use mathlib.Core.List.{List}
 use lib.Dec.{leb}
-use borrow.Author.Tests.{leb-true, leb-false}
-use Rattle.laws.specs.Bits.{bit}
+use borrow.Author.Tests.{leb-true, leb-false, lt-ltb}
 use Rattle.laws.proofs.Tests.{case}
 use Rattle.laws.proofs.Lists.{tabulate-same}
 use Rattle.rules.specs.declared.Plan.{Plan}
-use Rattle.rules.specs.declared.Terms.{Terms}
 use Rattle.rules.specs.declared.Yard.{Yard}
 use Rattle.rules.specs.declared.Record.{Record}
 use Rattle.rules.specs.declared.Device.{Device}
 use Rattle.rules.specs.declared.Letter.{Letter}
+use Rattle.rules.specs.declared.Letter.the-variants as letter
 use Rattle.rules.specs.declared.BaseMove.{BaseMove}
 use Rattle.rules.specs.Plan.{slot, terms}
-use Rattle.rules.specs.Yard.{device}
+use Rattle.rules.specs.Yard.{writes, device}
 use Rattle.rules.specs.Tick.{sent, tick}
-use Rattle.rules.specs.Tick.Input.{downLost}
+use Rattle.rules.specs.Tick.Input.{approval, downLost}
 use Rattle.rules.specs.Tick.Step1.{eachDevice, clocked, placeClock, leaseClock, step1}
 use Rattle.rules.specs.Tick.Step2.{movedAt, step2}
-use Rattle.rules.specs.Tick.Step3.{baseMove, baseIndex, letterGone, step3}
+use Rattle.rules.specs.Tick.Step3.{baseMove, letterGone, step3}
+use Rattle.rules.specs.Numbers.{baseIndex}
 use Rattle.rules.specs.Tick.Step4.{delivered, step4}
 use Rattle.rules.proofs.Ticks.Views.{each-used, each-unused, risen, turn, tick-down}
-use Rattle.yard.specs.Sweep.{deviceAt, sweep, risenBy, deliveredBy, gone, heardFrom, byteOf}
-use Rattle.yard.proofs.Sweeps.{sweep-both}
-use Rattle.yard.proofs.Keeps.{byte-kept}
+use Rattle.yard.specs.Engaged.{deviceAt}
+use Rattle.yard.proofs.Sweeps.{sweep, risenBy, deliveredBy, sweep-both}
+use Rattle.yard.proofs.Pass.{Pass, Come, hears}
 
 -- Two steps, one after the other over all devices, are one pass of both.
 module _ (p : Plan) (f g : ℕ → Device → Device) (y z : Yard) (done : z .devices ≡ eachDevice p f y) where
-  pub two-passes : eachDevice p g z ≡ sweep (p .N) (λ i d. g i (f i d)) (y .devices)
+  two-passes : eachDevice p g z ≡ sweep (p .N) (λ i d. g i (f i d)) (y .devices)
   unfolding eachDevice device
   two-passes = tabulate-same _ _ 8 at
     where
@@ -44,72 +45,69 @@ module _ (p : Plan) (f g : ℕ → Device → Device) (y z : Yard) (done : z .de
           (λ q. rw q (each-unused p f y z done i low high (leb-false _ _ q)))
 
 module _ (p : Plan) (y : Yard) (r : Record) where
-  pub rises : risen p y r .devices ≡ sweep (p .N) (risenBy (p .Q) (p .N) (p .slots) (r .command)) (y .devices)
-  unfolding step1 step2 slot
-  rises = two-passes p (clocked p) (movedAt p r) y (step1 p y) refl
+  -- What each device does in steps 1 and 2, and what step 4 then does to it by the down letter of the tick.
+  abbrev does : ℕ → Device → Device
+  does = risenBy (p .Q) (p .N) (p .slots) (r .command)
 
-  pub settles :
-      tick p y r .devices
-      ≡ sweep (p .N) (λ i d. deliveredBy (p .slots) (downLost r) (r .willing) (turn p y r .down) i (gone d)) (risen p y r .devices)
-  unfolding tick sent step1 step2 step3 step4 slot
-  settles =
-      two-passes p letterGone (delivered p r (turn p y r .down)) (risen p y r) (sent p y r .yard) refl
+  abbrev delivers : ℕ → Device → Device
+  delivers = deliveredBy (p .slots) (downLost r) (r .willing) (turn p y r .down)
 
   -- The devices once steps 1 and 2 are done, their letters still with them: the code never holds them all.
-  abbrev up : Terms → List Device
-  up t = sweep (t .N) (risenBy (p .Q) (t .N) (p .slots) (r .command)) (y .devices)
+  abbrev up : List Device
+  up = sweep (p .N) does (y .devices)
 
-  -- What the code holds at the tick's end.
-  module _
-      (t : Terms) (t-is : t ≡ terms p)
-      (left devices : List Device) (i clock lease : ℕ) (last own : Letter) (approved lost : Bool) (m : BaseMove)
-      (last-is : last ≡ heardFrom (r .lost) (up t) (t .N))
-      (i-is : i ≡ baseIndex (y .base))
-      (own-is : own ≡ heardFrom (r .lost) (up t) i)
-      (clock-is : clock ≡ placeClock t (y .base) (y .clock))
-      (lease-is : lease ≡ leaseClock (y .base) (y .lease))
-      (approved-is : approved ≡ bit (r .flags) 0)
-      (m-is : m ≡ baseMove t approved last own (y .base) clock lease)
-      (lost-is : lost ≡ bit (r .flags) 1)
-      (left-is : left ≡ sweep (t .N) (λ j d. gone (risenBy (p .Q) (t .N) (p .slots) (r .command) j d)) (y .devices))
-      (devices-is : devices ≡ sweep (t .N) (deliveredBy (p .slots) lost (r .willing) (m .down)) left)
-    where
-      up-risen : up t ≡ risen p y r .devices
-      up-risen = rw t-is (sym rises)
+  -- What the supervisor does when it hears this of the initializer and of the device of its place.
+  abbrev pub hearing : Letter → Letter → BaseMove
+  hearing last own =
+      let t = terms p in
+      baseMove t (approval r) last own (y .base) (placeClock t (y .base) (y .clock)) (leaseClock (y .base) (y .lease))
 
-      m-turn : m ≡ turn p y r
-      unfolding device
-      m-turn = m-is ∙ rw (last-is, own-is, up-risen, i-is, clock-is, lease-is, approved-is, t-is)
+  rises : up ≡ risen p y r .devices
+  unfolding step1 step2 slot
+  rises = sym (two-passes p (clocked p) (movedAt p r) y (step1 p y) refl)
 
-      byte-settled : p .N ≤ 8 → byteOf (t .N) (up t) ≡ byteOf (p .N) (tick p y r .devices)
-      byte-settled few =
-          rw (up-risen, t-is, settles)
-          (sym (byte-kept (p .slots) (downLost r) (r .willing) (turn p y r .down) (p .N) (risen p y r .devices) few))
+  settles : tick p y r .devices ≡ sweep (p .N) (λ i d. delivers i (writes letter.None d)) (risen p y r .devices)
+  unfolding tick sent step1 step2 step3 step4 slot
+  settles = two-passes p letterGone (delivered p r (turn p y r .down)) (risen p y r) (sent p y r .yard) refl
 
-      devices-settled : devices ≡ tick p y r .devices
-      devices-settled =
-          let f = risenBy (p .Q) (t .N) (p .slots) (r .command) in
-          let g = deliveredBy (p .slots) lost (r .willing) (m .down) in
-          devices-is
-          ∙ rw left-is (sweep-both (λ j d. gone (f j d)) g (t .N) (y .devices))
-          ∙ sym (sweep-both f (λ j d. g j (gone d)) (t .N) (y .devices))
-          ∙ rw (up-risen, t-is, lost-is, m-turn) (sym settles)
+  -- A pass over the devices, where `last` is the initializer's index and `own` that of the supervisor's place.
+  module _ (last own : ℕ) (n : last + 1 ≡ p .N) (own-is : own ≡ baseIndex (y .base) - 1) (own-in : own ≤ last) where
+    abbrev o : Pass
+    o = record { plan = p; input = r; last = last; own = own; start = y .devices }
 
-      -- The yard and the down letter that it answers, and the byte of the devices that are engaged, which the code has before
-      -- step 4.
-      pub ticked :
-          (record { base = m .base; clock = m .clock; lease = m .lease; devices = devices } ≡ tick p y r)
-          × (m .down ≡ sent p y r .down)
-          × (p .N ≤ 8 → byteOf (t .N) (up t) ≡ byteOf (p .N) (tick p y r .devices))
-      unfolding tick sent step1 step2 step3 step4
-      ticked = (
-        λ j.
+    -- It is over, the supervisor has heard what it hears and has made its move, and the down letter has arrived.
+    module _
+        (left devices : List Device) (from-last from-own : Letter) (byte : ℕ) (m : BaseMove)
+        (come : Come o (last + 1) left from-own byte) (from-last-is : from-last ≡ hears o last)
+        (m-is : m ≡ hearing from-last from-own)
+        (devices-are : devices ≡ sweep (p .N) (deliveredBy (p .slots) (downLost r) (r .willing) (m .down)) left)
+      where
+        m-turn : m ≡ turn p y r
+        unfolding device
+        m-turn =
+            let at-n : last ≡ p .N - 1 = omega arith in
+            let of-last = rw (n, at-n) at from-last-is in
+            let of-own = rw (lt-ltb own (last + 1) (omega arith), n, own-is) at (come .letter) in
+            m-is ∙ rw (of-last, of-own, rises)
+
+        devices-settled : devices ≡ tick p y r .devices
+        devices-settled =
+            devices-are
+            ∙ rw (rw n at (come .devices), m-turn) (sweep-both (λ i d. writes letter.None (does i d)) delivers (p .N) (y .devices))
+            ∙ sym (sweep-both does (λ i d. delivers i (writes letter.None d)) (p .N) (y .devices))
+            ∙ rw rises (sym settles)
+
+        -- The yard and the down letter that the code answers.
+        pub ticked : record { base = m .base; clock = m .clock; lease = m .lease; devices = devices } ≡ tick p y r
+        unfolding tick sent step1 step2 step3 step4
+        ticked =
+            λ j.
             record {
               base = m-turn j .base;
               clock = m-turn j .clock;
               lease = m-turn j .lease;
               devices = devices-settled j;
-            },
-        ap (λ (n : BaseMove). n .down) m-turn ∙ sym (tick-down p y r),
-        λ few. byte-settled few,
-      )
+            }
+
+        pub sends : m .down ≡ sent p y r .down
+        sends = ap (λ (z : BaseMove). z .down) m-turn ∙ sym (tick-down p y r)

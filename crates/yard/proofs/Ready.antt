@@ -17,11 +17,19 @@ use Rattle.rules.specs.declared.Verdict.the-variants.{Accepted}
 use Rattle.rules.specs.Plan.{LS}
 use Rattle.rules.specs.Table.{planVerdict}
 use Rattle.rules.specs.Yard.{device, freshDevice, wellFormed}
-use Rattle.rules.specs.Tick.Step3.{baseIndex}
+use Rattle.rules.specs.Numbers.{baseIndex}
 use Rattle.rules.specs.Theorems.{Accepts}
 use Rattle.rules.proofs.Plans.Accepted.{accepted-exactly}
 use Rattle.rules.proofs.States.Formed.{Based, Placed, Formed, formed-is}
-use Rattle.yard.specs.Ready.{Ready}
+
+-- What a tick needs of a state so that no clock runs over: less than that it is well formed.
+pub record Ready (p : Plan) (y : Yard) : Type 0 where
+  pub some : 1 ≤ p .N
+  pub few : p .N ≤ 8
+  pub index : baseIndex (y .base) ≤ p .N
+  pub clock : y .clock ≤ 36000
+  pub lease : y .lease ≤ 108000
+  pub clocks : (k : ℕ) → k < 8 → getD (y .devices) k freshDevice .clock ≤ 36000
 
 module _ (p : Plan) (a : Accepts p) where
   long : LS p ≤ 108000
@@ -67,4 +75,11 @@ ready p y e w =
     let a = accepted-exactly p .0 e in
     let f = formed-is p y w in
     let b = based-ready p a (y .base) (y .clock) (y .lease) (f .based) in
-    record { some = omega (arith, a .devices .0); few = a .devices .1; index = b .0; clock = b .1; lease = b .2; clocks = at-place p a y f }
+    record {
+      some = omega (arith, a .devices .0);
+      few = a .devices .1;
+      index = b .0;
+      clock = b .1;
+      lease = b .2;
+      clocks = at-place p a y f;
+    }

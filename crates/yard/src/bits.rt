@@ -1,23 +1,40 @@
-// The bits of a record's bytes, and of a tick's.
+// The byte of the devices that are engaged.
+use pace::engages;
+use rules::Device;
 ghost use mathlib.Core.Path.{_≡_};
-ghost use mathlib.Core.Bool.{cond};
-ghost use Prim.Native.Nat.{_+_, _<_};
-ghost use Rattle.laws.specs.Bits as bits;
+ghost use Prim.Native.Nat.{_+_, _≤_, _<_};
+ghost use Rattle.yard.specs.Engaged.{bitOf, byteOf};
 
-pub(crate) fn bit(b: u8, k: usize) -> bool
+// Bit k, for the device that stands at k, if it is engaged.
+fn engaged_bit(k: usize, d: Device) -> u8
     requires { ⌜ k < 8 ⌝ }
-    ensures { λ r. ⌜ r ≡ bits.bit b k ⌝ }
+    ensures { λ r. ⌜ r ≡ bitOf k d ⌝ }
 {
-    (b >> k) % 2 == 1
+    let place = d.place;
+    if engages(place) {
+        return 1u8 << k;
+    }
+    0
 }
 
-// A byte put together bit by bit, with powers of two.
-pub(crate) fn with_bit(byte: u16, power: u16, on: bool) -> u16
-    requires { ⌜ byte + power < 65536 ⌝ }
-    ensures { λ r. ⌜ r ≡ byte + cond on power 0 ⌝ }
+// The byte of the first n devices.
+pub(crate) fn engaged_byte(n: usize, devices: [Device; 8]) -> u8
+    requires { ⌜ n ≤ 8 ⌝ }
+    ensures { λ r. ⌜ r ≡ byteOf n devices ⌝ }
 {
-    if on {
-        return byte + power;
+    let mut byte: u8 = 0;
+    let mut k: usize = 0;
+    while k < n {
+        byte += engaged_bit(k, devices[k]);
+        k += 1;
     }
     byte
+}
+
+// The byte when the device at k has changed.
+pub(crate) fn rebit(byte: u8, k: usize, before: Device, after: Device) -> u8
+    requires { ⌜ (k < 8) × (bitOf k before ≤ byte) × (byte + bitOf k after < 256 + bitOf k before) ⌝ }
+    ensures { λ r. ⌜ r + bitOf k before ≡ byte + bitOf k after ⌝ }
+{
+    byte - engaged_bit(k, before) + engaged_bit(k, after)
 }

@@ -1,5 +1,6 @@
 // Step 1: the clocks that add 1. Callers have seen that the state is well formed, so that no clock is near the end of its
 // type; nothing else in a tick adds to a clock.
+use pace::stops_at;
 use rules::Base;
 use rules::Device;
 use rules::Place;
@@ -7,14 +8,8 @@ use rules::Slot;
 use rules::Terms;
 ghost use mathlib.Core.Path.{_≡_};
 ghost use Prim.Native.Nat.{_≤_};
-ghost use Rattle.rules.specs.Tick.Step1.{stopsAt, placeClock, leaseClock, deviceClock};
-ghost use Rattle.yard.specs.Sweep.{clockedBy};
-
-pub(crate) fn stops_at(limit: u16, clock: u16) -> u16
-    ensures { λ r. ⌜ r ≡ stopsAt limit clock ⌝ }
-{
-    if clock < limit { clock + 1 } else { clock }
-}
+ghost use Rattle.rules.specs.Tick.Step1.{placeClock, leaseClock, deviceClock};
+ghost use Rattle.pace.specs.Pace.{clockedBy};
 
 pub(crate) fn place_clock(t: Terms, base: Base, clock: u16) -> u16
     requires { ⌜ clock ≤ 36000 ⌝ }
@@ -59,11 +54,5 @@ pub(crate) fn clocked(s: Slot, d: Device) -> Device
     ensures { λ r. ⌜ r ≡ clockedBy s d ⌝ }
 {
     let place = d.place;
-    let letter = d.letter;
-    let clock = device_clock(s, place, d.clock);
-    Device {
-        clock,
-        place,
-        letter,
-    }
+    device::clock_at(device_clock(s, place, d.clock), d)
 }

@@ -1,20 +1,17 @@
 // The yard's calls: a fresh yard, one tick, a run. No public function here has a `requires`.
 mod bits;
 mod clocks;
-mod devices;
 mod engine;
-mod moves;
-mod step;
+mod rising;
 
+use device::fresh_device;
 use engine::roll_on;
-use rolls::first_bad;
-use rolls::valid_record;
+use refusals::run_verdict;
+use refusals::tick_verdict;
+use rolls::ticks_to_do;
 use rules::Base;
-use rules::Device;
 use rules::Down;
 use rules::FreshAnswer;
-use rules::Letter;
-use rules::Place;
 use rules::Plan;
 use rules::Record;
 use rules::RunAnswer;
@@ -22,23 +19,17 @@ use rules::TickAnswer;
 use rules::Verdict;
 use rules::Yard;
 ghost use mathlib.Core.Path.{_≡_};
-ghost use Prim.Native.Nat.{min};
 ghost use Rattle.rules.specs.declared.Verdict.the-variants.{Accepted};
 ghost use Rattle.rules.specs.Table.{planVerdict};
 ghost use Rattle.rules.specs.Yard.{freshYard, freshAnswer};
-ghost use Rattle.rules.specs.Tick.{tickVerdict, tickAnswer};
+ghost use Rattle.rules.specs.Tick.{tickAnswer};
 ghost use Rattle.rules.specs.Run.{runAnswer, runBuffer};
 ghost use Rattle.rules.specs.Promises.{Kept, shown};
-ghost use Rattle.yard.specs.Refusals.{verdictFor};
 
 fn fresh_yard() -> Yard
     ensures { λ r. ⌜ r ≡ freshYard ⌝ }
 {
-    let d = Device {
-        clock: 0,
-        place: Place::FallBack,
-        letter: Letter::None,
-    };
+    let d = fresh_device();
     Yard {
         base: Base::FallBack,
         clock: 0,
@@ -54,28 +45,6 @@ pub fn fresh(p: Plan) -> FreshAnswer
     let verdict = plan::check(p);
     let yard = fresh_yard();
     FreshAnswer { verdict, yard }
-}
-
-fn tick_verdict(p: Plan, y: Yard, r: Record) -> Verdict
-    ensures { λ v. ⌜ v ≡ tickVerdict p y r ⌝ }
-{
-    let plan = plan::check(p);
-    let Verdict::Accepted = plan else {
-        return plan;
-    };
-    if !state::well_formed(p, y) {
-        return Verdict::Refused {
-            number: 11,
-            index: 0,
-        };
-    }
-    if !valid_record(p, r) {
-        return Verdict::Refused {
-            number: 10,
-            index: 1,
-        };
-    }
-    Verdict::Accepted
 }
 
 // One tick. It is refused for its plan (1 to 9), then its state (11 at 0), then its record (10 at 1), and then answers the
@@ -103,51 +72,6 @@ pub fn tick(p: Plan, y: Yard, r: Record) -> TickAnswer
     }
 }
 
-fn smaller(a: usize, b: usize) -> usize
-    ensures { λ r. ⌜ r ≡ min a b ⌝ }
-{
-    if a < b {
-        return a;
-    }
-    b
-}
-
-// The refusals of a run in their order; `room` is the buffer's length.
-fn run_verdict(p: Plan, y: Yard, roll: &[u8], ticks: usize, room: usize) -> Verdict
-    ensures { λ v. ⌜ v ≡ verdictFor p y (now (roll .entry)) ticks room ⌝ }
-{
-    let plan = plan::check(p);
-    let Verdict::Accepted = plan else {
-        return plan;
-    };
-    if !state::well_formed(p, y) {
-        return Verdict::Refused {
-            number: 11,
-            index: 0,
-        };
-    }
-    if roll.len() % 4 != 0 {
-        return Verdict::Refused {
-            number: 12,
-            index: 0,
-        };
-    }
-    let bad = first_bad(p, roll);
-    if bad < roll.len() / 4 {
-        return Verdict::Refused {
-            number: 10,
-            index: bad + 1,
-        };
-    }
-    if room < ticks {
-        return Verdict::Refused {
-            number: 13,
-            index: 0,
-        };
-    }
-    Verdict::Accepted
-}
-
 // A run: the smaller of budget and records, from the state it is given. It is refused for its plan (1 to 9), its state
 // (11 at 0), its roll's length (12 at 0), the first bad record of the whole roll (10 at its number from 1), its buffer
 // (13 at 0), and then answers the state it was given and 0 ticks, and leaves the buffer as it is. Otherwise the buffer gets
@@ -159,7 +83,7 @@ pub fn run(p: Plan, y: Yard, roll: &[u8], budget: usize, engaged: &mut [u8]) -> 
     ensures { λ a. ⌜ now (engaged .exit) ≡ runBuffer p y (now (roll .entry)) budget (now (engaged .entry)) ⌝ }
     ensures { λ a. ⌜ (planVerdict p ≡ Accepted → y ≡ freshYard → Kept p (shown (now (engaged .exit))) (a .ticks)) ⌝ }
 {
-    let ticks = smaller(budget, roll.len() / 4);
+    let ticks = ticks_to_do(roll, budget);
     let verdict = run_verdict(p, y, roll, ticks, engaged.len());
     let Verdict::Accepted = verdict else {
         return RunAnswer {

@@ -1,4 +1,4 @@
-use Rattle.calls.specs.Asked.{sizeVerdict}
+use Rattle.exports_rules.specs.Asked.{sizeVerdict}
 use Rattle.answers.proofs.size_verdict.Statement.{statement}
 use Rattle.answers.proofs.size_verdict.Tie as tie
 

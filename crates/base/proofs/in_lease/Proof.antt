@@ -4,73 +4,70 @@ use borrow.Author.Needs.{needs}
 use Rattle.base.proofs.in_lease.Statement.{statement}
 use Rattle.base.proofs.in_lease.Tie as tie
 
-aborts-requires : tie.Need-aborts-requires
-aborts-requires c κs = search needs
-
-returns : tie.Need-returns
-unfolding inLease
-returns c = rw (c .before .if1 .taken) (c .aborts .ensures)
-
-same-letter-requires : tie.Need-same-letter-requires
-same-letter-requires c κs = search needs
-
-cancels-requires : tie.Need-cancels-requires
-cancels-requires c κs = search needs
-
 returns-2 : tie.Need-returns-2
 unfolding inLease
-returns-2 c = rw (c .before .before .before .if1 .left, sym (c .before .before .same-letter .ensures) ∙ c .before .if2 .taken) (c .cancels .ensures)
-
-same-letter-requires-2 : tie.Need-same-letter-requires-2
-same-letter-requires-2 c κs = search needs
-
-leases-requires : tie.Need-leases-requires
-leases-requires c κs = search needs
+returns-2 c =
+    let if1-is = c .before .before .before .if1 .left in
+    let same-letter-is = sym (c .before .before .same-letter .ensures) ∙ c .before .if2 .taken in
+    rw (if1-is, same-letter-is) (c .cancels .ensures)
 
 returns-3 : tie.Need-returns-3
 unfolding inLease
-returns-3 c = rw (c .before .before .before .before .before .if1 .left, sym (c .before .before .before .before .same-letter .ensures) ∙ c .before .before .before .if2 .left, sym (c .before .before .same-letter2 .ensures) ∙ c .before .if3 .taken) (c .leases .ensures)
-
-same-letter-requires-3 : tie.Need-same-letter-requires-3
-same-letter-requires-3 c κs = search needs
-
-cancels-below-requires : tie.Need-cancels-below-requires
-cancels-below-requires c κs = search needs
+returns-3 c =
+    let at4 = c .before .before .before .before in
+    let if1-is = at4 .before .if1 .left in
+    let same-letter-is = sym (at4 .same-letter .ensures) ∙ c .before .before .before .if2 .left in
+    let same-letter2-is = sym (c .before .before .same-letter2 .ensures) ∙ c .before .if3 .taken in
+    rw (if1-is, same-letter-is, same-letter2-is) (c .leases .ensures)
 
 returns-4 : tie.Need-returns-4
 unfolding inLease
-returns-4 c = rw (c .before .before .before .before .before .before .before .if1 .left, sym (c .before .before .before .before .before .before .same-letter .ensures) ∙ c .before .before .before .before .before .if2 .left, sym (c .before .before .before .before .same-letter2 .ensures) ∙ c .before .before .before .if3 .left, sym (c .before .before .same-letter3 .ensures) ∙ c .before .if4 .taken) (c .cancels-below .ensures)
-
-cancels-requires-2 : tie.Need-cancels-requires-2
-cancels-requires-2 c κs = search needs
+returns-4 c =
+    let at4 = c .before .before .before .before in
+    let if1-is = at4 .before .before .before .if1 .left in
+    let same-letter-is = sym (at4 .before .before .same-letter .ensures) ∙ at4 .before .if2 .left in
+    let same-letter2-is = sym (at4 .same-letter2 .ensures) ∙ c .before .before .before .if3 .left in
+    let same-letter3-is = sym (c .before .before .same-letter3 .ensures) ∙ c .before .if4 .taken in
+    rw (if1-is, same-letter-is, same-letter2-is, same-letter3-is) (c .cancels-below .ensures)
 
 returns-5 : tie.Need-returns-5
 unfolding inLease
-returns-5 c = rw (c .before .before .before .before .before .before .before .before .if1 .left, sym (c .before .before .before .before .before .before .before .same-letter .ensures) ∙ c .before .before .before .before .before .before .if2 .left, sym (c .before .before .before .before .before .same-letter2 .ensures) ∙ c .before .before .before .before .if3 .left, sym (c .before .before .before .same-letter3 .ensures) ∙ c .before .before .if4 .left, c .before .if5 .taken) (c .cancels2 .ensures)
-
-stays-requires : tie.Need-stays-requires
-stays-requires c κs = search needs
+returns-5 c =
+    let at4 = c .before .before .before .before in
+    let at8 = at4 .before .before .before .before in
+    let if1-is = at8 .if1 .left in
+    let same-letter-is = sym (at4 .before .before .before .same-letter .ensures) ∙ at4 .before .before .if2 .left in
+    let same-letter2-is = sym (at4 .before .same-letter2 .ensures) ∙ at4 .if3 .left in
+    let same-letter3-is = sym (c .before .before .before .same-letter3 .ensures) ∙ c .before .before .if4 .left in
+    let if5-is = c .before .if5 .taken in
+    rw (if1-is, same-letter-is, same-letter2-is, same-letter3-is, if5-is) (c .cancels2 .ensures)
 
 returns-6 : tie.Need-returns-6
 unfolding inLease
-returns-6 c = rw (c .before .before .before .before .before .before .before .before .if1 .left, sym (c .before .before .before .before .before .before .before .same-letter .ensures) ∙ c .before .before .before .before .before .before .if2 .left, sym (c .before .before .before .before .before .same-letter2 .ensures) ∙ c .before .before .before .before .if3 .left, sym (c .before .before .before .same-letter3 .ensures) ∙ c .before .before .if4 .left, c .before .if5 .left) (c .stays .ensures)
+returns-6 c =
+    let at4 = c .before .before .before .before in
+    let at8 = at4 .before .before .before .before in
+    let if1-is = at8 .if1 .left in
+    let same-letter-is = sym (at4 .before .before .before .same-letter .ensures) ∙ at4 .before .before .if2 .left in
+    let same-letter2-is = sym (at4 .before .same-letter2 .ensures) ∙ at4 .if3 .left in
+    let same-letter3-is = sym (c .before .before .before .same-letter3 .ensures) ∙ c .before .before .if4 .left in
+    let if5-is = c .before .if5 .left in
+    rw (if1-is, same-letter-is, same-letter2-is, same-letter3-is, if5-is) (c .stays .ensures)
 
 pub in-lease-spec : {M : Type 1} → statement M
+unfolding inLease
 in-lease-spec =
     tie.close
     (tie.spec
-    aborts-requires
-    returns
-    same-letter-requires
-    cancels-requires
+    (λ c κs. search needs)
+    (λ c. rw (c .before .if1 .taken) (c .aborts .ensures))
+    (λ c κs. search needs) (λ c κs. search needs)
     returns-2
-    same-letter-requires-2
-    leases-requires
+    (λ c κs. search needs) (λ c κs. search needs)
     returns-3
-    same-letter-requires-3
-    cancels-below-requires
+    (λ c κs. search needs) (λ c κs. search needs)
     returns-4
-    cancels-requires-2
+    (λ c κs. search needs)
     returns-5
-    stays-requires
+    (λ c κs. search needs)
     returns-6)

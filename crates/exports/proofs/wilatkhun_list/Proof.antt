@@ -1,26 +1,16 @@
 use mathlib.Core.Path.{sym, _∙_, ap}
 use lib.ListN.{length}
-use Rattle.printed.specs.declared.Listed.{Listed}
-use Rattle.calls.proofs.Lengths.{list-sized}
+use Rattle.listing_rules.specs.declared.Listed.{Listed}
+use Rattle.exports_rules.proofs.Lengths.{list-sized}
 use borrow.Author.Needs.{needs}
 use Rattle.exports.proofs.wilatkhun_list.Statement.{statement}
 use Rattle.exports.proofs.wilatkhun_list.Tie as tie
 
-list-for-requires : tie.Need-list-for-requires
-list-for-requires c κs = search needs
-
 keep-yard-requires : tie.Need-keep-yard-requires
 keep-yard-requires c κs h =
-    list-sized (c .before .before .before .before .before .before .before .before .before .before .before .args .plan .now) (c .before .before .before .before .before .before .before .before .before .before .before .args .yard .now) (c .before .before .before .before .before .before .before .before .before .before .before .args .roll .now) (c .before .before .before .before .before .before .before .before .before .before .before .args .first) (length (c .before .before .before .before .before .before .before .before .before .before .before .args .out .now)) (ap (λ (a : Listed). a .verdict) (sym (c .before .before .before .before .list-for .ensures .0)) ∙ h)
-
-answer-requires : tie.Need-answer-requires
-answer-requires c κs = search needs
-
-same-length : tie.Need-same-length
-same-length c = search needs
-
-same-length-2 : tie.Need-same-length-2
-same-length-2 c = search needs
+    let args = c .before .before .before .before .before .before .before .before .before .before .before .args in
+    let told = ap (λ (a : Listed). a .verdict) (c .before .before .before .before .list-for .ensures .0) in
+    list-sized (args .plan .now) (args .yard .now) (args .roll .now) (args .first) (length (args .out .now)) (sym told ∙ h)
 
 returns : tie.Need-returns
 returns c =
@@ -37,9 +27,7 @@ pub wilatkhun-list-spec : {M : Type 1} → statement M
 wilatkhun-list-spec =
     tie.close
     (tie.spec
-    list-for-requires
+    (λ c κs. search needs)
     keep-yard-requires
-    answer-requires
-    same-length
-    same-length-2
+    (λ c κs. search needs) (λ c. search needs) (λ c. search needs)
     returns)

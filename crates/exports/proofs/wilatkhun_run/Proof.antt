@@ -1,25 +1,15 @@
 use mathlib.Core.Path.{sym, _∙_, ap}
 use Rattle.rules.specs.declared.RunAnswer.{RunAnswer}
-use Rattle.calls.proofs.Lengths.{run-sized}
+use Rattle.exports_rules.proofs.Lengths.{run-sized}
 use borrow.Author.Needs.{needs}
 use Rattle.exports.proofs.wilatkhun_run.Statement.{statement}
 use Rattle.exports.proofs.wilatkhun_run.Tie as tie
 
-run-for-requires : tie.Need-run-for-requires
-run-for-requires c κs = search needs
-
 keep-yard-requires : tie.Need-keep-yard-requires
 keep-yard-requires c κs h =
-    run-sized (c .before .before .before .before .before .before .before .before .before .before .before .args .plan .now) (c .before .before .before .before .before .before .before .before .before .before .before .args .yard .now) (c .before .before .before .before .before .before .before .before .before .before .before .args .roll .now) (c .before .before .before .before .before .before .before .before .before .before .before .args .budget) (c .before .before .before .before .before .before .before .before .before .before .before .args .engaged .now) (ap (λ (a : RunAnswer). a .verdict) (sym (c .before .before .before .before .run-for .ensures .0)) ∙ h)
-
-answer-requires : tie.Need-answer-requires
-answer-requires c κs = search needs
-
-same-length : tie.Need-same-length
-same-length c = search needs
-
-same-length-2 : tie.Need-same-length-2
-same-length-2 c = search needs
+    let args = c .before .before .before .before .before .before .before .before .before .before .before .args in
+    let told = ap (λ (a : RunAnswer). a .verdict) (c .before .before .before .before .run-for .ensures .0) in
+    run-sized (args .plan .now) (args .yard .now) (args .roll .now) (args .budget) (args .engaged .now) (sym told ∙ h)
 
 returns : tie.Need-returns
 returns c =
@@ -36,9 +26,7 @@ pub wilatkhun-run-spec : {M : Type 1} → statement M
 wilatkhun-run-spec =
     tie.close
     (tie.spec
-    run-for-requires
+    (λ c κs. search needs)
     keep-yard-requires
-    answer-requires
-    same-length
-    same-length-2
+    (λ c κs. search needs) (λ c. search needs) (λ c. search needs)
     returns)

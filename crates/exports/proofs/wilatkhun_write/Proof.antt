@@ -1,17 +1,8 @@
 use lib.ListN.{length}
-use Rattle.calls.proofs.Zero.{zero-written}
+use Rattle.exports_rules.proofs.Zero.{zero-written}
 use borrow.Author.Needs.{needs}
 use Rattle.exports.proofs.wilatkhun_write.Statement.{statement}
 use Rattle.exports.proofs.wilatkhun_write.Tie as tie
-
-write-for-requires : tie.Need-write-for-requires
-write-for-requires c κs = search needs
-
-answer-requires : tie.Need-answer-requires
-answer-requires c κs = search needs
-
-same-length : tie.Need-same-length
-same-length c = search needs
 
 returns : tie.Need-returns
 returns c =
@@ -26,4 +17,4 @@ returns c =
     }
 
 pub wilatkhun-write-spec : {M : Type 1} → statement M
-wilatkhun-write-spec = tie.close (tie.spec write-for-requires answer-requires same-length returns)
+wilatkhun-write-spec = tie.close (tie.spec (λ c κs. search needs) (λ c κs. search needs) (λ c. search needs) returns)

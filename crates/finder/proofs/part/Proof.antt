@@ -7,18 +7,6 @@ use borrow.Author.Needs.{needs}
 use Rattle.finder.proofs.part.Statement.{statement}
 use Rattle.finder.proofs.part.Tie as tie
 
-add-end : tie.Need-add-end
-add-end c = search needs
-
-sub-result : tie.Need-sub-result
-sub-result c = search needs
-
-part-result-start : tie.Need-part-result-start
-part-result-start c = search needs
-
-part-result-end : tie.Need-part-result-end
-part-result-end c = search needs
-
 returns : tie.Need-returns
 returns c =
     let s : List ℕ = c .before .args .s .now in
@@ -28,4 +16,4 @@ returns c =
     record { bytes = ap (λ (k : ℕ). take k (drop start s)) long; block = refl; place = refl }
 
 pub part-spec : {M : Type 1} → statement M
-part-spec = tie.close (tie.spec add-end sub-result part-result-start part-result-end returns)
+part-spec = tie.close (tie.spec (λ c. search needs) (λ c. search needs) (λ c. search needs) (λ c. search needs) returns)

@@ -5,10 +5,6 @@ use Rattle.rules.specs.Plan.{isTime}
 use Rattle.plan.proofs.is_time.Statement.{statement}
 use Rattle.plan.proofs.is_time.Tie as tie
 
--- src/lib.rt:33:1
-returns : tie.Need-returns
-unfolding isTime
-returns c = sym (all-is _ (_ ∷ []))
-
 pub is-time-spec : {M : Type 1} → statement M
-is-time-spec = tie.close (tie.spec returns)
+unfolding isTime
+is-time-spec = tie.close (tie.spec (λ c. sym (all-is _ (_ ∷ []))))

@@ -7,17 +7,12 @@ use borrow.Author.Needs.{needs}
 use Rattle.rolls.proofs.within.Statement.{statement}
 use Rattle.rolls.proofs.within.Tie as tie
 
-cast-result : tie.Need-cast-result
-cast-result c = search needs
-
-cast-result-2 : tie.Need-cast-result-2
-cast-result-2 c = search needs
-
 returns : tie.Need-returns
 unfolding validRecord
 returns c =
-    let r = c .before .before .before .before .args .r in
+    let at4 = c .before .before .before .before in
+    let r = at4 .args .r in
     λ p willing lost. rw (willing (r .willing) (search needs), lost (r .lost) (search needs), flags-clear (r .flags)) (sym (all-is _ (_ ∷ _ ∷ _ ∷ [])))
 
 pub within-spec : {M : Type 1} → statement M
-within-spec = tie.close (tie.spec cast-result cast-result-2 returns)
+within-spec = tie.close (tie.spec (λ c. search needs) (λ c. search needs) returns)

@@ -19,7 +19,7 @@ use Rattle.rules.specs.declared.Plan.{Plan}
 use Rattle.rules.specs.declared.Yard.{Yard}
 use Rattle.rules.specs.declared.Place.the-variants as place
 use Rattle.rules.specs.Plan.{slot}
-use Rattle.rules.specs.Yard.{placeNumber}
+use Rattle.rules.specs.Numbers.{placeNumber}
 use Rattle.rules.specs.Tick.Input.{request}
 use Rattle.rules.specs.Tick.Step1.{step1}
 use Rattle.rules.specs.Run.{recordAt, after}

@@ -8,7 +8,7 @@ use Rattle.rules.specs.declared.Plan.{Plan}
 use Rattle.rules.specs.declared.Base.{Base}
 use Rattle.rules.specs.declared.Base.the-variants as base
 use Rattle.rules.specs.Plan.{LS}
-use Rattle.rules.specs.Tick.Step3.{baseIndex}
+use Rattle.rules.specs.Numbers.{baseIndex}
 use Rattle.rules.specs.Run.{recordAt, after}
 use Rattle.rules.specs.Theorems.{Accepts}
 use Rattle.rules.specs.Promises.{yardAfter, placeAt, LeasesEnd, RestIsSafe}

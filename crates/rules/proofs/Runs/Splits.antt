@@ -8,21 +8,21 @@ use lib.ListN.{getD, drop}
 use lib.Seq.{getD-drop}
 use Rattle.rules.specs.declared.Plan.{Plan}
 use Rattle.rules.specs.declared.Yard.{Yard}
-use Rattle.rules.specs.Run.{recordAt, after, engagedByte, engagedBytes}
+use Rattle.rules.specs.Run.{recordStart, recordAt, after, engagedByte, engagedBytes}
 use Rattle.rules.specs.Theorems.{RunSplits}
 
 -- The records of what is left of a roll.
-pub record-later : (roll : List ℕ) (a b : ℕ) → recordAt (drop (4 * a) roll) b ≡ recordAt roll (a + b)
+pub record-later : (roll : List ℕ) (a b : ℕ) → recordAt (drop (recordStart a) roll) b ≡ recordAt roll (a + b)
 unfolding recordAt
 record-later roll a b =
-    let byte : (j : ℕ) → getD (drop (4 * a) roll) (4 * b + j) 0 ≡ getD roll (4 * (a + b) + j) 0 =
-    λ j. getD-drop (4 * a) roll (4 * b + j) 0 ∙ ap (λ (k : ℕ). getD roll k 0) (omega arith) in
-    let first : getD (drop (4 * a) roll) (4 * b) 0 ≡ getD roll (4 * (a + b)) 0 =
-    getD-drop (4 * a) roll (4 * b) 0 ∙ ap (λ (k : ℕ). getD roll k 0) (omega arith) in
+    let byte : (j : ℕ) → getD (drop (recordStart a) roll) (recordStart b + j) 0 ≡ getD roll (recordStart (a + b) + j) 0 =
+    λ j. getD-drop (recordStart a) roll (recordStart b + j) 0 ∙ ap (λ (k : ℕ). getD roll k 0) (omega arith) in
+    let first : getD (drop (recordStart a) roll) (recordStart b) 0 ≡ getD roll (recordStart (a + b)) 0 =
+    getD-drop (recordStart a) roll (recordStart b) 0 ∙ ap (λ (k : ℕ). getD roll k 0) (omega arith) in
     λ j. record { command = first j; flags = byte 1 j; willing = byte 2 j; lost = byte 3 j }
 
 module _ (p : Plan) (y : Yard) (roll : List ℕ) (a : ℕ) where
-  pub after-splits : (b : ℕ) → after p y roll (a + b) ≡ after p (after p y roll a) (drop (4 * a) roll) b
+  pub after-splits : (b : ℕ) → after p y roll (a + b) ≡ after p (after p y roll a) (drop (recordStart a) roll) b
   unfolding after
   after-splits zero = ap (after p y roll) (add-zero a)
   after-splits (suc b) = rw (add-suc a b, after-splits b, record-later roll a b)
@@ -30,7 +30,7 @@ module _ (p : Plan) (y : Yard) (roll : List ℕ) (a : ℕ) where
   pub bytes-split :
       (b : ℕ)
       → engagedBytes p y roll (a + b)
-      ≡ engagedBytes p y roll a ++ engagedBytes p (after p y roll a) (drop (4 * a) roll) b
+      ≡ engagedBytes p y roll a ++ engagedBytes p (after p y roll a) (drop (recordStart a) roll) b
   unfolding engagedBytes
   bytes-split zero = ap (engagedBytes p y roll) (add-zero a) ∙ sym (append-nil _)
   bytes-split (suc b) =

@@ -15,7 +15,8 @@ use Rattle.rules.specs.declared.Letter.the-variants as letter
 use Rattle.rules.specs.declared.Device.{Device}
 use Rattle.rules.specs.declared.Yard.{Yard}
 use Rattle.rules.specs.Plan.{slot, LS, isDevice}
-use Rattle.rules.specs.Yard.{at, device, freshDevice, placeNumber, letterNumber, samePlace, sameLetter, indexFormed, clockFormed, leaseFormed, placeFormed, letterFormed, isFresh, deviceFormed, baseFormed, wellFormed}
+use Rattle.rules.specs.Yard.{at, device, freshDevice, samePlace, sameLetter, indexFormed, clockFormed, leaseFormed, placeFormed, letterFormed, isFresh, deviceFormed, baseFormed, wellFormed}
+use Rattle.rules.specs.Numbers.{placeNumber, letterNumber}
 use Rattle.rules.proofs.Plans.Table.{device-is, is-device, pair-is, is-pair}
 
 -- Places and letters with the same number are the same.

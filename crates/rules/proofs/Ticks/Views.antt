@@ -17,7 +17,8 @@ use Rattle.rules.specs.Tick.{sent, tick}
 use Rattle.rules.specs.Tick.Input.{approval}
 use Rattle.rules.specs.Tick.Step1.{eachDevice, placeClock, leaseClock, clocked, step1}
 use Rattle.rules.specs.Tick.Step2.{movedAt, step2}
-use Rattle.rules.specs.Tick.Step3.{heard, baseMove, baseIndex, letterGone, step3}
+use Rattle.rules.specs.Tick.Step3.{heard, baseMove, letterGone, step3}
+use Rattle.rules.specs.Numbers.{baseIndex}
 use Rattle.rules.specs.Tick.Step4.{delivered, step4}
 
 -- A yard whose devices have each done f.

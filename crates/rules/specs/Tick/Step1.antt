@@ -15,7 +15,7 @@ use Rattle.rules.specs.declared.Place.the-variants as place
 use Rattle.rules.specs.declared.Device.{Device}
 use Rattle.rules.specs.declared.Yard.{Yard}
 use Rattle.rules.specs.Plan.{slot, terms}
-use Rattle.rules.specs.Yard.{at, device}
+use Rattle.rules.specs.Yard.{clockAt, device}
 
 -- The eight devices after each of 1 to N has done f; slots above N stay as they are.
 unfoldable pub eachDevice : Plan → (ℕ → Device → Device) → Yard → List Device
@@ -25,19 +25,19 @@ eachDevice p f y = swept (λ i. f i (device y i)) (device y) (p .N) 8
 abbrev pub stopsAt : ℕ → ℕ → ℕ
 stopsAt limit c = cond (ltb c limit) (c + 1) c
 
-unfoldable pub placeClock : Terms → Base → ℕ → ℕ
+abbrev pub placeClock : Terms → Base → ℕ → ℕ
 placeClock t base.FallBack c = stopsAt (t .B) c
 placeClock t (base.Lease i) c = cond (ltb i (t .N)) (c + 1) c
 placeClock t (base.Cancel i) c = c
 placeClock t (base.Abort i) c = c
 
-unfoldable pub leaseClock : Base → ℕ → ℕ
+abbrev pub leaseClock : Base → ℕ → ℕ
 leaseClock base.FallBack l = l
 leaseClock (base.Lease i) l = l + 1
 leaseClock (base.Cancel i) l = l + 1
 leaseClock (base.Abort i) l = l + 1
 
-unfoldable pub deviceClock : Slot → Place → ℕ → ℕ
+abbrev pub deviceClock : Slot → Place → ℕ → ℕ
 deviceClock s place.FallBack c = stopsAt (s .F) c
 deviceClock s place.Requesting c = c + 1
 deviceClock s place.Entering c = c + 1
@@ -47,7 +47,7 @@ deviceClock s place.Exiting2 c = c + 1
 
 -- Step 1 of device i.
 abbrev pub clocked : Plan → ℕ → Device → Device
-clocked p i d = at (d .place) (deviceClock (slot p i) (d .place) (d .clock)) (d .letter)
+clocked p i d = clockAt (deviceClock (slot p i) (d .place) (d .clock)) d
 
 unfoldable pub step1 : Plan → Yard → Yard
 step1 p y =

@@ -16,7 +16,8 @@ use Rattle.rules.specs.declared.Record.{Record}
 use Rattle.rules.specs.declared.Terms.{Terms}
 use Rattle.rules.specs.declared.BaseMove.{BaseMove}
 use Rattle.rules.specs.Plan.{terms}
-use Rattle.rules.specs.Yard.{at, device, sameLetter}
+use Rattle.rules.specs.Yard.{writes, device, sameLetter}
+use Rattle.rules.specs.Numbers.{baseIndex}
 use Rattle.rules.specs.Tick.Input.{approval, upLost}
 use Rattle.rules.specs.Tick.Step1.{eachDevice}
 
@@ -103,16 +104,9 @@ baseMove t approved last own (base.Lease i) clock lease = unlessOver t lease (le
 baseMove t approved last own (base.Cancel i) clock lease = unlessOver t lease (cancelling own i clock lease)
 baseMove t approved last own (base.Abort i) clock lease = unlessOver t lease (aborting own i clock lease)
 
--- The device i of Lease i, Cancel i and Abort i; Fall-Back has none.
-abbrev pub baseIndex : Base → ℕ
-baseIndex base.FallBack = 0
-baseIndex (base.Lease i) = i
-baseIndex (base.Cancel i) = i
-baseIndex (base.Abort i) = i
-
 -- A device whose letter has gone up.
 abbrev pub letterGone : ℕ → Device → Device
-letterGone i d = at (d .place) (d .clock) letter.None
+letterGone i d = writes letter.None d
 
 -- A yard and the down letter that it has just sent.
 pub record Sent : Type 0 where

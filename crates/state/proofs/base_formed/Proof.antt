@@ -6,19 +6,12 @@ use borrow.Author.Needs.{needs}
 use Rattle.state.proofs.base_formed.Statement.{statement}
 use Rattle.state.proofs.base_formed.Tie as tie
 
-index-formed-requires : tie.Need-index-formed-requires
-index-formed-requires c κs = search needs
-
-clock-formed-requires : tie.Need-clock-formed-requires
-clock-formed-requires c κs = search needs
-
-lease-formed-requires : tie.Need-lease-formed-requires
-lease-formed-requires c κs = search needs
-
 returns : tie.Need-returns
 unfolding baseFormed
-returns c = rw (c .lease-formed .ensures, c .before .clock-formed .ensures, c .before .before .index-formed .ensures) (sym (all-is _ (_ ∷ _ ∷ [])))
+returns c =
+    let index-formed-is = c .before .before .index-formed .ensures in
+    rw (c .lease-formed .ensures, c .before .clock-formed .ensures, index-formed-is) (sym (all-is _ (_ ∷ _ ∷ [])))
 
 pub base-formed-spec : {M : Type 1} → statement M
 base-formed-spec =
-    tie.close (tie.spec index-formed-requires clock-formed-requires lease-formed-requires returns)
+    tie.close (tie.spec (λ c κs. search needs) (λ c κs. search needs) (λ c κs. search needs) returns)

@@ -7,21 +7,14 @@ use borrow.Author.Needs.{needs}
 use Rattle.state.proofs.device_formed.Statement.{statement}
 use Rattle.state.proofs.device_formed.Tie as tie
 
-wide-requires : tie.Need-wide-requires
-wide-requires c κs = search needs
-
-place-formed-requires : tie.Need-place-formed-requires
-place-formed-requires c κs = search needs
-
-letter-formed-requires : tie.Need-letter-formed-requires
-letter-formed-requires c κs = search needs
-
 returns : tie.Need-returns
 unfolding deviceFormed
-returns c = rw (c .letter-formed .ensures, c .before .place-formed .ensures, le-leb _ _ (rw (c .before .before .before .before .wide .ensures .0) at (c .before .before .if1 .taken))) (sym (all-is _ (_ ∷ [])))
-
-is-fresh-requires : tie.Need-is-fresh-requires
-is-fresh-requires c κs = search needs
+returns c =
+    let at4 = c .before .before .before .before in
+    let letter-formed-is = c .letter-formed .ensures in
+    let place-formed-is = c .before .place-formed .ensures in
+    let wide-is = le-leb _ _ (rw (at4 .wide .ensures .0) at (c .before .before .if1 .taken)) in
+    rw (letter-formed-is, place-formed-is, wide-is) (sym (all-is _ (_ ∷ [])))
 
 returns-2 : tie.Need-returns-2
 unfolding deviceFormed
@@ -31,9 +24,7 @@ pub device-formed-spec : {M : Type 1} → statement M
 device-formed-spec =
     tie.close
     (tie.spec
-    wide-requires
-    place-formed-requires
-    letter-formed-requires
+    (λ c κs. search needs) (λ c κs. search needs) (λ c κs. search needs)
     returns
-    is-fresh-requires
+    (λ c κs. search needs)
     returns-2)

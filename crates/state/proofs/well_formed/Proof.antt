@@ -19,9 +19,6 @@ Inv-loop p devices k₀ k = (k ≤ 8) × (each (formedAt p devices) k ≡ true)
 abbrev μ-loop : tie.MeasureT-loop
 μ-loop p devices k₀ k = 8 - k
 
-base-formed-requires : tie.Need-base-formed-requires Inv-loop μ-loop
-base-formed-requires c κs = search needs
-
 returns : tie.Need-returns Inv-loop μ-loop
 unfolding wellFormed
 returns c = sym (all-is _ (_ ∷ []) ∙ rw (sym (c .before .base-formed .ensures) ∙ not-true _ (c .if1 .taken)))
@@ -30,55 +27,39 @@ loop-holds : tie.Need-loop-holds Inv-loop μ-loop
 unfolding each
 loop-holds c = (omega arith, refl)
 
-cast-i : tie.Need-cast-i Inv-loop μ-loop
-cast-i c = search needs
-
-add-i : tie.Need-add-i Inv-loop μ-loop
-add-i c = search needs
-
-mul-device-formed : tie.Need-mul-device-formed Inv-loop μ-loop
-mul-device-formed c = search needs
-
-array-copy-out-device-formed : tie.Need-array-copy-out-device-formed Inv-loop μ-loop
-array-copy-out-device-formed c = search needs
-
-device-formed-requires : tie.Need-device-formed-requires Inv-loop μ-loop
-device-formed-requires c κs = search needs
-
 returns-2 : tie.Need-returns-2 Inv-loop μ-loop
 unfolding wellFormed device
 returns-2 c =
-    let k : ℕ = c .before .before .before .before .loop .k in
-    let p : Plan = c .before .before .before .before .before .before .before .before .args .p in
-    let broken : formedAt p (c .before .before .before .before .before .before .before .before .args .y .devices) (k + 1) ≡ false =
-    formed-here p (c .before .before .before .before .before .before .before .before .args .y .devices) k ∙ sym (c .before .device-formed .ensures) ∙ not-true _ (c .if2 .taken) in
+    let at4 = c .before .before .before .before in
+    let at8 = at4 .before .before .before .before in
+    let k : ℕ = at4 .loop .k in
+    let p : Plan = at8 .args .p in
+    let broken : formedAt p (at8 .args .y .devices) (k + 1) ≡ false =
+    formed-here p (at8 .args .y .devices) k ∙ sym (c .before .device-formed .ensures) ∙ not-true _ (c .if2 .taken) in
     sym
     (all-is _ (_ ∷ [])
-    ∙ ap₂ _&&_ (sym (c .before .before .before .before .before .before .before .base-formed .ensures) ∙ not-false _ (c .before .before .before .before .before .before .if1 .left))
-    (each-broken (formedAt p (c .before .before .before .before .before .before .before .before .args .y .devices)) 8 (k + 1) (omega arith) (omega arith) broken))
-
-add-k : tie.Need-add-k Inv-loop μ-loop
-add-k c = search needs
-
-loop-less : tie.Need-loop-less Inv-loop μ-loop
-loop-less c = search needs
+    ∙ ap₂ _&&_ (sym (at4 .before .before .before .base-formed .ensures) ∙ not-false _ (at4 .before .before .if1 .left))
+    (each-broken (formedAt p (at8 .args .y .devices)) 8 (k + 1) (omega arith) (omega arith) broken))
 
 loop-again : tie.Need-loop-again Inv-loop μ-loop
 loop-again c =
-    let k : ℕ = c .before .before .before .before .loop .k in
-    let p : Plan = c .before .before .before .before .before .before .before .before .args .p in (
+    let at4 = c .before .before .before .before in
+    let at8 = at4 .before .before .before .before in
+    let k : ℕ = at4 .loop .k in
+    let p : Plan = at8 .args .p in (
       omega arith,
-      each-next (formedAt p (c .before .before .before .before .before .before .before .before .args .y .devices)) k (c .before .before .before .before .loop .inv .1)
-          (formed-here p (c .before .before .before .before .before .before .before .before .args .y .devices) k ∙ sym (c .before .device-formed .ensures) ∙ not-false _ (c .if2 .left)),
+      each-next (formedAt p (at8 .args .y .devices)) k (at4 .loop .inv .1)
+          (formed-here p (at8 .args .y .devices) k ∙ sym (c .before .device-formed .ensures) ∙ not-false _ (c .if2 .left)),
     )
 
 returns-3 : tie.Need-returns-3 Inv-loop μ-loop
 unfolding wellFormed device
 returns-3 c =
+    let at4 = c .before .before .before .before in
     let all : c .before .loop .k ≡ 8 = omega arith in
     sym
     (all-is _ (_ ∷ [])
-    ∙ ap₂ _&&_ (sym (c .before .before .before .before .base-formed .ensures) ∙ not-false _ (c .before .before .before .if1 .left)) (rw all at (c .before .loop .inv .1)))
+    ∙ ap₂ _&&_ (sym (at4 .base-formed .ensures) ∙ not-false _ (c .before .before .before .if1 .left)) (rw all at (c .before .loop .inv .1)))
 
 pub well-formed-spec : {M : Type 1} → statement M
 well-formed-spec =
@@ -86,16 +67,11 @@ well-formed-spec =
     (tie.spec
     Inv-loop
     μ-loop
-    base-formed-requires
+    (λ c κs. search needs)
     returns
     loop-holds
-    cast-i
-    add-i
-    mul-device-formed
-    array-copy-out-device-formed
-    device-formed-requires
+    (λ c. search needs) (λ c. search needs) (λ c. search needs) (λ c. search needs) (λ c κs. search needs)
     returns-2
-    add-k
-    loop-less
+    (λ c. search needs) (λ c. search needs)
     loop-again
     returns-3)

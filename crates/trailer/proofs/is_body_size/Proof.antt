@@ -1,11 +1,8 @@
 use native.Mathlib.Omega.{arith}
-use Rattle.files.specs.File.{devicesFor, isBodySize}
+use Rattle.planfile_rules.specs.File.{devicesFor, isBodySize}
 use borrow.Author.Needs.{needs}
 use Rattle.trailer.proofs.is_body_size.Statement.{statement}
 use Rattle.trailer.proofs.is_body_size.Tie as tie
-
-devices-for-requires : tie.Need-devices-for-requires
-devices-for-requires c κs = search needs
 
 mul-result : tie.Need-mul-result
 unfolding devicesFor
@@ -20,4 +17,4 @@ unfolding isBodySize
 returns c = rw (c .devices-for .ensures)
 
 pub is-body-size-spec : {M : Type 1} → statement M
-is-body-size-spec = tie.close (tie.spec devices-for-requires mul-result add-result returns)
+is-body-size-spec = tie.close (tie.spec (λ c κs. search needs) mul-result add-result returns)

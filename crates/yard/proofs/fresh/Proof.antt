@@ -3,15 +3,9 @@ use borrow.Author.Needs.{needs}
 use Rattle.yard.proofs.fresh.Statement.{statement}
 use Rattle.yard.proofs.fresh.Tie as tie
 
-check-requires : tie.Need-check-requires
-check-requires c κs = search needs
-
-fresh-yard-requires : tie.Need-fresh-yard-requires
-fresh-yard-requires c κs = search needs
-
 returns : tie.Need-returns
 unfolding freshAnswer
 returns c = rw (c .fresh-yard .ensures, c .before .check .ensures)
 
 pub fresh-spec : {M : Type 1} → statement M
-fresh-spec = tie.close (tie.spec check-requires fresh-yard-requires returns)
+fresh-spec = tie.close (tie.spec (λ c κs. search needs) (λ c κs. search needs) returns)

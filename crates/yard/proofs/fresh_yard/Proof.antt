@@ -1,11 +1,8 @@
-use mathlib.Core.Path.{refl}
+use borrow.Author.Needs.{needs}
 use Rattle.rules.specs.Yard.{freshYard}
 use Rattle.yard.proofs.fresh_yard.Statement.{statement}
 use Rattle.yard.proofs.fresh_yard.Tie as tie
 
-returns : tie.Need-returns
-unfolding freshYard
-returns c = refl
-
 pub fresh-yard-spec : {M : Type 1} → statement M
-fresh-yard-spec = tie.close (tie.spec returns)
+unfolding freshYard
+fresh-yard-spec = tie.close (tie.spec (λ c κs. search needs) (λ c. rw (c .fresh-device .ensures)))

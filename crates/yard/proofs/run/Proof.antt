@@ -8,18 +8,6 @@ use borrow.Author.Needs.{needs}
 use Rattle.yard.proofs.run.Statement.{statement}
 use Rattle.yard.proofs.run.Tie as tie
 
-smaller-requires : tie.Need-smaller-requires
-smaller-requires c κs = search needs
-
-run-verdict-requires : tie.Need-run-verdict-requires
-run-verdict-requires c κs = search needs
-
-enum-told : tie.Need-enum-told
-enum-told c = search needs
-
-enum-told-2 : tie.Need-enum-told-2
-enum-told-2 c = search needs
-
 returns : tie.Need-returns
 returns c =
     let a = c .before .before .before .before .before .before .args in
@@ -27,7 +15,7 @@ returns c =
     let y : Yard = a .y in
     let roll : List ℕ = a .roll .now in
     let buffer : List ℕ = a .engaged .now in
-    let e = run-refused p y roll (a .budget) buffer _ (c .before .before .before .smaller .ensures) _ (c .before .before .run-verdict .ensures) _ _ (c .enum-told2 .given .1) in
+    let e = run-refused p y roll (a .budget) buffer _ (c .before .before .before .ticks-to-do .ensures) _ (c .before .before .run-verdict .ensures) _ _ (c .enum-told2 .given .1) in
     (e .0, (e .1, run-keeps p y roll (a .budget) buffer _ _ (e .0) (e .1)))
 
 roll-on-requires : tie.Need-roll-on-requires
@@ -37,11 +25,8 @@ roll-on-requires c κs =
     let y : Yard = a .y in
     let roll : List ℕ = a .roll .now in
     let buffer : List ℕ = a .engaged .now in
-    let e = run-taken p y roll (a .budget) buffer _ (c .before .before .before .before .smaller .ensures) _ (c .before .before .before .run-verdict .ensures) (c .before .enum-told .given .1) in
-    ((e .0, e .1), (omega arith, e .2))
-
-same-length : tie.Need-same-length
-same-length c = search needs
+    let e = run-taken p y roll (a .budget) buffer _ (c .before .before .before .before .ticks-to-do .ensures) _ (c .before .before .before .run-verdict .ensures) (c .before .enum-told .given .1) in
+    ((e .0, e .1), e .2)
 
 returns-2 : tie.Need-returns-2
 returns-2 c =
@@ -51,18 +36,15 @@ returns-2 c =
     let roll : List ℕ = a .roll .now in
     let buffer : List ℕ = a .engaged .now in
     let s = c .before .before .before .roll-on .ensures in
-    let e = run-accepted p y roll (a .budget) buffer _ (c .before .before .before .before .before .before .before .before .smaller .ensures) _ (c .before .before .before .before .before .before .before .run-verdict .ensures) (c .before .before .before .before .before .enum-told .given .1) _ _ (s .0 .0) (s .1) in
+    let e = run-accepted p y roll (a .budget) buffer _ (c .before .before .before .before .before .before .before .before .ticks-to-do .ensures) _ (c .before .before .before .before .before .before .before .run-verdict .ensures) (c .before .before .before .before .before .enum-told .given .1) _ _ (s .0 .0) (s .1) in
     (e .0, (e .1, run-keeps p y roll (a .budget) buffer _ _ (e .0) (e .1)))
 
 pub run-spec : {M : Type 1} → statement M
 run-spec =
     tie.close
     (tie.spec
-    smaller-requires
-    run-verdict-requires
-    enum-told
-    enum-told-2
+    (λ c κs. search needs) (λ c κs. search needs) (λ c. search needs) (λ c. search needs)
     returns
     roll-on-requires
-    same-length
+    (λ c. search needs)
     returns-2)

@@ -5,31 +5,16 @@ use borrow.Author.Needs.{needs}
 use Rattle.yard.proofs.tick.Statement.{statement}
 use Rattle.yard.proofs.tick.Tie as tie
 
-tick-verdict-requires : tie.Need-tick-verdict-requires
-tick-verdict-requires c κs = search needs
-
-enum-told : tie.Need-enum-told
-enum-told c = search needs
-
-enum-told-2 : tie.Need-enum-told-2
-enum-told-2 c = search needs
-
 returns : tie.Need-returns
 returns c =
     let a = c .before .before .before .args in
     tick-refused (a .p) (a .y) (a .r) _ (c .before .before .tick-verdict .ensures) _ _ (c .enum-told2 .given .1)
 
-slice-aggregate-roll-on : tie.Need-slice-aggregate-roll-on
-slice-aggregate-roll-on c = search needs
-
-slice-aggregate-roll-on-2 : tie.Need-slice-aggregate-roll-on-2
-slice-aggregate-roll-on-2 c = search needs
-
 roll-on-requires : tie.Need-roll-on-requires
 roll-on-requires c κs =
     let a = c .before .before .before .before .before .args in (
       tick-taken (a .p) (a .y) (a .r) (sym (c .before .before .before .before .tick-verdict .ensures) ∙ c .before .before .enum-told .given .1),
-      (omega arith, omega arith),
+      omega arith,
     )
 
 returns-2 : tie.Need-returns-2
@@ -42,11 +27,8 @@ pub tick-spec : {M : Type 1} → statement M
 tick-spec =
     tie.close
     (tie.spec
-    tick-verdict-requires
-    enum-told
-    enum-told-2
+    (λ c κs. search needs) (λ c. search needs) (λ c. search needs)
     returns
-    slice-aggregate-roll-on
-    slice-aggregate-roll-on-2
+    (λ c. search needs) (λ c. search needs)
     roll-on-requires
     returns-2)

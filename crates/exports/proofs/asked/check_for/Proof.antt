@@ -1,17 +1,8 @@
 use mathlib.Core.Path.{sym, _∙_}
-use Rattle.calls.specs.Asked.{checkFor}
+use Rattle.exports_rules.specs.Asked.{checkFor}
 use borrow.Author.Needs.{needs}
 use Rattle.exports.proofs.asked.check_for.Statement.{statement}
 use Rattle.exports.proofs.asked.check_for.Tie as tie
-
-size-verdict-requires : tie.Need-size-verdict-requires
-size-verdict-requires c κs = search needs
-
-enum-told : tie.Need-enum-told
-enum-told c = search needs
-
-enum-told-2 : tie.Need-enum-told-2
-enum-told-2 c = search needs
 
 returns : tie.Need-returns
 unfolding checkFor
@@ -19,12 +10,6 @@ returns c =
     let size = c .before .before .size-verdict .ensures in
     let told = c .enum-told2 .given .1 in
     rw (told, sym size ∙ told)
-
-whole-plan-requires : tie.Need-whole-plan-requires
-whole-plan-requires c κs = search needs
-
-check-requires : tie.Need-check-requires
-check-requires c κs = search needs
 
 returns-2 : tie.Need-returns-2
 unfolding checkFor
@@ -37,10 +22,7 @@ pub check-for-spec : {M : Type 1} → statement M
 check-for-spec =
     tie.close
     (tie.spec
-    size-verdict-requires
-    enum-told
-    enum-told-2
+    (λ c κs. search needs) (λ c. search needs) (λ c. search needs)
     returns
-    whole-plan-requires
-    check-requires
+    (λ c κs. search needs) (λ c κs. search needs)
     returns-2)

@@ -1,24 +1,9 @@
 use mathlib.Core.Path.{sym, _∙_}
 use mathlib.Core.Path.{refl}
-use Rattle.calls.specs.Asked.{listFor, textFor}
+use Rattle.exports_rules.specs.Asked.{listFor, textFor}
 use borrow.Author.Needs.{needs}
 use Rattle.exports.proofs.asked.list_for.Statement.{statement}
 use Rattle.exports.proofs.asked.list_for.Tie as tie
-
-whole-plan-requires : tie.Need-whole-plan-requires
-whole-plan-requires c κs = search needs
-
-read-requires : tie.Need-read-requires
-read-requires c κs = search needs
-
-size-verdict-requires : tie.Need-size-verdict-requires
-size-verdict-requires c κs = search needs
-
-enum-told : tie.Need-enum-told
-enum-told c = search needs
-
-enum-told-2 : tie.Need-enum-told-2
-enum-told-2 c = search needs
 
 returns : tie.Need-returns
 unfolding listFor textFor
@@ -27,29 +12,24 @@ returns c =
     let told = c .enum-told2 .given .1 in
     rw (told, sym size ∙ told, c .before .before .before .read .ensures) (refl, refl)
 
-list-requires : tie.Need-list-requires
-list-requires c κs = search needs
-
-same-length : tie.Need-same-length
-same-length c = search needs
-
 returns-2 : tie.Need-returns-2
 unfolding listFor textFor
 returns-2 c =
     let size = c .before .before .before .before .before .before .size-verdict .ensures in
     let told = c .before .before .before .before .enum-told .given .1 in
-    rw (sym size ∙ told, ← (c .before .before .before .before .before .before .before .read .ensures), ← (c .before .before .before .before .before .before .before .before .whole-plan .ensures)) (c .before .before .list .ensures)
+    rw (
+      sym size ∙ told,
+      ← (c .before .before .before .before .before .before .before .read .ensures),
+      ← (c .before .before .before .before .before .before .before .before .whole-plan .ensures),
+    )
+    (c .before .before .list .ensures)
 
 pub list-for-spec : {M : Type 1} → statement M
 list-for-spec =
     tie.close
     (tie.spec
-    whole-plan-requires
-    read-requires
-    size-verdict-requires
-    enum-told
-    enum-told-2
+    (λ c κs. search needs) (λ c κs. search needs) (λ c κs. search needs) (λ c. search needs)
+    (λ c. search needs)
     returns
-    list-requires
-    same-length
+    (λ c κs. search needs) (λ c. search needs)
     returns-2)

@@ -1,23 +1,8 @@
 use mathlib.Core.Path.{sym, _∙_}
-use Rattle.calls.specs.Asked.{tickFor}
+use Rattle.exports_rules.specs.Asked.{tickFor}
 use borrow.Author.Needs.{needs}
 use Rattle.exports.proofs.asked.tick_for.Statement.{statement}
 use Rattle.exports.proofs.asked.tick_for.Tie as tie
-
-whole-plan-requires : tie.Need-whole-plan-requires
-whole-plan-requires c κs = search needs
-
-read-requires : tie.Need-read-requires
-read-requires c κs = search needs
-
-size-verdict-requires : tie.Need-size-verdict-requires
-size-verdict-requires c κs = search needs
-
-enum-told : tie.Need-enum-told
-enum-told c = search needs
-
-enum-told-2 : tie.Need-enum-told-2
-enum-told-2 c = search needs
 
 returns : tie.Need-returns
 unfolding tickFor
@@ -26,25 +11,24 @@ returns c =
     let told = c .enum-told2 .given .1 in
     rw (told, sym size ∙ told, c .before .before .before .read .ensures)
 
-tick-requires : tie.Need-tick-requires
-tick-requires c κs = search needs
-
 returns-2 : tie.Need-returns-2
 unfolding tickFor
 returns-2 c =
     let size = c .before .before .before .size-verdict .ensures in
     let told = c .before .enum-told .given .1 in
-    rw (sym size ∙ told, ← (c .before .before .before .before .read .ensures), ← (c .before .before .before .before .before .whole-plan .ensures)) (c .tick .ensures)
+    rw (
+      sym size ∙ told,
+      ← (c .before .before .before .before .read .ensures),
+      ← (c .before .before .before .before .before .whole-plan .ensures),
+    )
+    (c .tick .ensures)
 
 pub tick-for-spec : {M : Type 1} → statement M
 tick-for-spec =
     tie.close
     (tie.spec
-    whole-plan-requires
-    read-requires
-    size-verdict-requires
-    enum-told
-    enum-told-2
+    (λ c κs. search needs) (λ c κs. search needs) (λ c κs. search needs) (λ c. search needs)
+    (λ c. search needs)
     returns
-    tick-requires
+    (λ c κs. search needs)
     returns-2)

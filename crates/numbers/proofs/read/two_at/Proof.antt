@@ -13,28 +13,6 @@ returns c =
     let at = c .before .before .args .at in
     rw (List·getD-eq-default s 0 {n = at} (c .if1 .taken), List·getD-eq-default s 0 {n = at + 1} (omega arith))
 
-add-next : tie.Need-add-next
-add-next c = search needs
-
-shared-slice-read-two : tie.Need-shared-slice-read-two
-shared-slice-read-two c = search needs
-
-shared-slice-read-two-2 : tie.Need-shared-slice-read-two-2
-shared-slice-read-two-2 c = search needs
-
-two-requires : tie.Need-two-requires
-two-requires c κs = search needs
-
-returns-2 : tie.Need-returns-2
-unfolding num16
-returns-2 c = c .two .ensures
-
-shared-slice-read-wide : tie.Need-shared-slice-read-wide
-shared-slice-read-wide c = search needs
-
-wide-requires : tie.Need-wide-requires
-wide-requires c κs = search needs
-
 returns-3 : tie.Need-returns-3
 unfolding num16
 returns-3 c =
@@ -43,15 +21,12 @@ returns-3 c =
     rw (List·getD-eq-default s 0 {n = at + 1} (c .before .before .if2 .left)) (omega (arith, c .wide .ensures .0))
 
 pub two-at-spec : {M : Type 1} → statement M
+unfolding num16
 two-at-spec =
     tie.close
     (tie.spec
     returns
-    add-next
-    shared-slice-read-two
-    shared-slice-read-two-2
-    two-requires
-    returns-2
-    shared-slice-read-wide
-    wide-requires
+    (λ c. search needs) (λ c. search needs) (λ c. search needs) (λ c κs. search needs)
+    (λ c. c .two .ensures)
+    (λ c. search needs) (λ c κs. search needs)
     returns-3)

@@ -2,8 +2,8 @@ use Prim.Native.Nat.{_+_, _-_, _*_, _≤_}
 use native.Mathlib.Omega.{arith}
 use mathlib.Core.Path.{_≡_, _∙_}
 use borrow.Author.Needs.{needs}
-use Rattle.files.specs.File.{slotsIn}
-use Rattle.files.proofs.Slots.{none-read, slot-part, next-read}
+use Rattle.planfile_rules.specs.File.{slotsIn}
+use Rattle.planfile_rules.proofs.Slots.{none-read, slot-part, next-read}
 use Rattle.planfile.proofs.body.slots_in.Statement.{statement}
 use Rattle.planfile.proofs.body.slots_in.Tie as tie
 
@@ -12,45 +12,6 @@ Inv-loop body n slots₀ k₀ slots k = (k ≤ n) × (slots ≡ slotsIn k body)
 
 abbrev μ-loop : tie.MeasureT-loop
 μ-loop body n slots₀ k₀ slots k = n - k
-
-empty-plan-requires : tie.Need-empty-plan-requires Inv-loop μ-loop
-empty-plan-requires c κs = search needs
-
-loop-holds : tie.Need-loop-holds Inv-loop μ-loop
-loop-holds c = (search needs, rw (c .before .empty-plan .ensures) (none-read (c .before .before .before .args .body .now)))
-
-mul-at : tie.Need-mul-at Inv-loop μ-loop
-mul-at c = search needs
-
-add-at : tie.Need-add-at Inv-loop μ-loop
-add-at c = search needs
-
-add-end : tie.Need-add-end Inv-loop μ-loop
-add-end c = search needs
-
-sub-slot-in : tie.Need-sub-slot-in Inv-loop μ-loop
-sub-slot-in c = search needs
-
-part-slot-in-start : tie.Need-part-slot-in-start Inv-loop μ-loop
-part-slot-in-start c = search needs
-
-part-slot-in-end : tie.Need-part-slot-in-end Inv-loop μ-loop
-part-slot-in-end c = search needs
-
-slot-in-requires : tie.Need-slot-in-requires Inv-loop μ-loop
-slot-in-requires c κs = search needs
-
-mul-slots : tie.Need-mul-slots Inv-loop μ-loop
-mul-slots c = search needs
-
-array-set-from-slots : tie.Need-array-set-from-slots Inv-loop μ-loop
-array-set-from-slots c = search needs
-
-add-k : tie.Need-add-k Inv-loop μ-loop
-add-k c = search needs
-
-loop-less : tie.Need-loop-less Inv-loop μ-loop
-loop-less c = search needs
 
 loop-again : tie.Need-loop-again Inv-loop μ-loop
 loop-again c =
@@ -72,18 +33,10 @@ slots-in-spec =
     (tie.spec
     Inv-loop
     μ-loop
-    empty-plan-requires
-    loop-holds
-    mul-at
-    add-at
-    add-end
-    sub-slot-in
-    part-slot-in-start
-    part-slot-in-end
-    slot-in-requires
-    mul-slots
-    array-set-from-slots
-    add-k
-    loop-less
+    (λ c κs. search needs)
+    (λ c. (search needs, rw (c .before .empty-plan .ensures) (none-read (c .before .before .before .args .body .now))))
+    (λ c. search needs) (λ c. search needs) (λ c. search needs) (λ c. search needs) (λ c. search needs)
+    (λ c. search needs) (λ c κs. search needs) (λ c. search needs) (λ c. search needs) (λ c. search needs)
+    (λ c. search needs)
     loop-again
     returns)

@@ -16,7 +16,7 @@ use Rattle.rules.specs.Plan.{slot}
 use Rattle.rules.specs.Yard.{at, device}
 use Rattle.rules.specs.Tick.Input.{upLost}
 use Rattle.rules.specs.Tick.Step1.{stopsAt, deviceClock, clocked}
-use Rattle.rules.specs.Tick.Step2.{due, dueMove, heedRequest, heedCancel, moved, movedAt}
+use Rattle.rules.specs.Tick.Step2.{moved, movedAt}
 use Rattle.rules.specs.Tick.Step3.{heard}
 use Rattle.rules.specs.Theorems.{Accepts}
 use Rattle.rules.proofs.States.Formed.{Lettered, Formed}
@@ -47,7 +47,7 @@ module _ (p : Plan) (a : Accepts p) (r : Record) (i : ℕ) where
   risenFrom pl c l = movedAt p r i (clocked p i (at pl c l))
 
   no-letter : (pl : Place) (c : ℕ) → True (risenFrom pl c letter.None)
-  unfolding deviceClock moved due dueMove heedRequest heedCancel
+  unfolding moved
   no-letter place.FallBack c =
       let c' : ℕ = stopsAt (slot p i .F) c in
       on-heed p i r True (at place.FallBack c' letter.None) tt
@@ -69,7 +69,7 @@ module _ (p : Plan) (a : Accepts p) (r : Record) (i : ℕ) where
       (λ e. on-heed p i r True (at place.Exiting2 (c + 1) letter.None) tt tt (λ last c. tt))
 
   approve : i < p .N → True (risenFrom place.Entering 0 letter.Approve)
-  unfolding deviceClock moved due dueMove heedRequest heedCancel
+  unfolding moved
   approve below =
       let wait : 1 ≤ p .W = a .yardTimes .0 .low in
       let still : Entered p i place.Entering 1 =
@@ -78,7 +78,7 @@ module _ (p : Plan) (a : Accepts p) (r : Record) (i : ℕ) where
       (λ e. on-heed p i r True (at place.Entering 1 letter.Approve) still still (λ last c. absurd (omega arith)))
 
   deny : i < p .N → (c : ℕ) → True (risenFrom place.FallBack c letter.Deny)
-  unfolding deviceClock moved due dueMove heedRequest heedCancel
+  unfolding moved
   deny below c =
       let c' : ℕ = stopsAt (slot p i .F) c in
       on-heed p i r True (at place.FallBack c' letter.Deny) (λ q. q)

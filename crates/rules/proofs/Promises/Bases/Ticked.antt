@@ -17,7 +17,7 @@ use Rattle.rules.specs.Yard.{device}
 use Rattle.rules.specs.Tick.{tick}
 use Rattle.rules.specs.Tick.Input.{approval}
 use Rattle.rules.specs.Tick.Step1.{placeClock, leaseClock}
-use Rattle.rules.specs.Tick.Step3.{baseIndex}
+use Rattle.rules.specs.Numbers.{baseIndex}
 use Rattle.rules.specs.Theorems.{Accepts}
 use Rattle.rules.proofs.States.Formed.{Based, Formed}
 use Rattle.rules.proofs.Ticks.Views.{turn, up, tick-base, tick-clock, tick-lease}
@@ -30,7 +30,6 @@ use Rattle.rules.proofs.Promises.Bases.Turns.{Turn, Turned, Prompt, tur
 
 -- Away from Fall-Back step 1 adds a tick to the lease clock.
 pub lease-runs : (b : Base) (l : ℕ) → 1 ≤ baseIndex b → leaseClock b l ≡ l + 1
-unfolding leaseClock
 lease-runs base.FallBack l h = absurd (omega arith)
 lease-runs (base.Lease i) l h = refl
 lease-runs (base.Cancel i) l h = refl
@@ -45,7 +44,6 @@ base-used p (base.Abort i) c l h = h .0 .high
 -- Step 1 adds a tick to both clocks of a waiting base.
 prompt-kept :
     (p : Plan) (b : Base) (c l : ℕ) → Prompt p b c l → Prompt p b (placeClock (terms p) b c) (leaseClock b l)
-unfolding placeClock leaseClock
 prompt-kept p base.FallBack c l h = tt
 prompt-kept p (base.Lease i) c l h = λ few. rw (lt-ltb i (p .N) few) (omega (arith, h few))
 prompt-kept p (base.Cancel i) c l h = tt

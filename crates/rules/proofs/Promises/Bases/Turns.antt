@@ -16,7 +16,8 @@ use Rattle.rules.specs.declared.Down.{Down}
 use Rattle.rules.specs.declared.BaseMove.{BaseMove}
 use Rattle.rules.specs.Plan.{LS, terms}
 use Rattle.rules.specs.Yard.{sameLetter}
-use Rattle.rules.specs.Tick.Step3.{stays, cancels, aborts, below, leases, inFallBack, inLease, inLeaseN, leasing, cancelling, aborting, unlessOver, baseMove, baseIndex}
+use Rattle.rules.specs.Tick.Step3.{stays, cancels, aborts, below, leases, inFallBack, inLease, inLeaseN, leasing, cancelling, aborting, unlessOver, baseMove}
+use Rattle.rules.specs.Numbers.{baseIndex}
 use Rattle.rules.specs.Theorems.{Accepts}
 use Rattle.rules.proofs.States.Formed.{same-letter}
 use Rattle.rules.proofs.Ticks.Keeps.Base.{Clocked}

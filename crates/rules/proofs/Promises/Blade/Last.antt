@@ -16,7 +16,8 @@ use Rattle.rules.specs.Yard.{device}
 use Rattle.rules.specs.Tick.{tick}
 use Rattle.rules.specs.Tick.Input.{approval}
 use Rattle.rules.specs.Tick.Step1.{placeClock, leaseClock}
-use Rattle.rules.specs.Tick.Step3.{heard, stays, baseIndex}
+use Rattle.rules.specs.Tick.Step3.{heard, stays}
+use Rattle.rules.specs.Numbers.{baseIndex}
 use Rattle.rules.specs.Theorems.{Accepts}
 use Rattle.rules.specs.Promises.{Undisturbed}
 use Rattle.rules.proofs.States.Formed.{Formed}

@@ -17,7 +17,8 @@ use Rattle.rules.specs.Yard.{device}
 use Rattle.rules.specs.Tick.{tick}
 use Rattle.rules.specs.Tick.Input.{approval}
 use Rattle.rules.specs.Tick.Step1.{leaseClock}
-use Rattle.rules.specs.Tick.Step3.{heard, leases, baseIndex}
+use Rattle.rules.specs.Tick.Step3.{heard, leases}
+use Rattle.rules.specs.Numbers.{baseIndex}
 use Rattle.rules.specs.Theorems.{Accepts}
 use Rattle.rules.specs.Promises.{Undisturbed}
 use Rattle.rules.proofs.States.Formed.{Formed}

@@ -17,7 +17,7 @@ use Rattle.rules.specs.Plan.{slot}
 use Rattle.rules.specs.Yard.{at}
 use Rattle.rules.specs.Tick.Input.{request, cancel}
 use Rattle.rules.specs.Tick.Step1.{deviceClock, clocked}
-use Rattle.rules.specs.Tick.Step2.{due, dueMove, heedRequest, heed, moved, movedAt}
+use Rattle.rules.specs.Tick.Step2.{due, heed, moved, movedAt}
 use Rattle.rules.proofs.Promises.Stays.Moves.{on-heed}
 
 -- A device stands in a place, with a clock.
@@ -35,17 +35,17 @@ module _ (p : Plan) (r : Record) (i : ℕ) (pl : Place) (c : ℕ) (l : Letter) w
   risen = movedAt p r i (clocked p i (at pl c l))
 
   pub rest-rises : i < p .N → pl ≡ place.FallBack → deviceClock (slot p i) pl c ≡ slot p i .F → Stands risen place.FallBack (slot p i .F)
-  unfolding moved due
+  unfolding moved
   rest-rises few here rested = rw (here, ne-eqb i (p .N) (λ q. omega arith)) (record { place = refl; clock = rw here at rested })
 
   pub request-rises :
       i ≡ p .N → r .command ≡ request → pl ≡ place.FallBack → deviceClock (slot p i) pl c ≡ slot p i .F
       → Stands risen place.Requesting 0 × (risen .letter ≡ letter.Request)
-  unfolding moved due heed heedRequest
+  unfolding moved heed
   request-rises last asks here rested = rw (here, eq-eqb i (p .N) last, asks, rw here at rested, eq-eqb (slot p i .F) (slot p i .F) refl) (record { place = refl; clock = refl }, refl)
 
   pub approve-rises : i < p .N → pl ≡ place.Entering → l ≡ letter.Approve → risen .letter ≡ letter.Approve
-  unfolding moved due dueMove
+  unfolding moved
   approve-rises few here said =
       rw (here, ne-eqb i (p .N) (λ q. omega arith))
       (on-cond (λ (d : Device). d .letter ≡ letter.Approve) (eqb (deviceClock (slot p i) place.Entering c) (slot p i .E)) (λ e. said) (λ e. said))
@@ -54,7 +54,7 @@ module _ (p : Plan) (r : Record) (i : ℕ) (pl : Place) (c : ℕ) (l : Letter) w
   module _ (calm : r .command ≡ cancel → ⊥) where
     pub wait-rises :
         pl ≡ place.Requesting → c + 1 < p .Q → Stands risen place.Requesting (c + 1) × (risen .letter ≡ l)
-    unfolding moved due deviceClock heedRequest
+    unfolding moved
     wait-rises here early =
         rw (here, ne-eqb (c + 1) (p .Q) (λ q. omega arith))
         (on-heed p i r (λ (d : Device). Stands d place.Requesting (c + 1) × (d .letter ≡ l)) (at place.Requesting (c + 1) l)
@@ -63,7 +63,7 @@ module _ (p : Plan) (r : Record) (i : ℕ) (pl : Place) (c : ℕ) (l : Letter) w
 
     pub enter-rises :
         pl ≡ place.Entering → c + 1 < slot p i .E → Stands risen place.Entering (c + 1) × (risen .letter ≡ l)
-    unfolding moved due deviceClock heedRequest
+    unfolding moved
     enter-rises here early =
         rw (here, ne-eqb (c + 1) (slot p i .E) (λ q. omega arith))
         (on-heed p i r (λ (d : Device). Stands d place.Entering (c + 1) × (d .letter ≡ l)) (at place.Entering (c + 1) l)
@@ -71,5 +71,5 @@ module _ (p : Plan) (r : Record) (i : ℕ) (pl : Place) (c : ℕ) (l : Letter) w
         (λ last told. absurd (calm told)))
 
   pub run-rises : pl ≡ place.Entering → c + 1 ≡ slot p i .E → Stands risen place.Running 0 × (risen .letter ≡ l)
-  unfolding moved due deviceClock dueMove
+  unfolding moved
   run-rises here late = rw (here, eq-eqb (c + 1) (slot p i .E) late) (record { place = refl; clock = refl }, refl)

@@ -19,7 +19,7 @@ use Rattle.rules.specs.declared.Device.{Device}
 use Rattle.rules.specs.Plan.{slot, stay, LS}
 use Rattle.rules.specs.Yard.{at, device}
 use Rattle.rules.specs.Tick.Step1.{deviceClock}
-use Rattle.rules.specs.Tick.Step4.{hearLeaseReq, hearGrant, arrived}
+use Rattle.rules.specs.Tick.Step4.{arrived}
 use Rattle.rules.specs.Theorems.{Accepts}
 use Rattle.rules.proofs.States.Formed.{Lettered, Formed}
 use Rattle.rules.proofs.Promises.Blade.Rises.{Stands, Rests}
@@ -67,7 +67,6 @@ silent p y a f =
 
 -- A device that stands in Fall-Back at F rests on.
 pub rests-on : (p : Plan) (i : ℕ) (d : Device) → Stands d place.FallBack (slot p i .F) → Rests p i d
-unfolding deviceClock
 rests-on p i d h =
     let f : ℕ = slot p i .F in
     record { place = h .place; clock = rw (h .place, h .clock, le-ltb f f (omega arith)) }
@@ -80,9 +79,9 @@ module _ (s : Slot) (w : Bool) (i : ℕ) (l : Down) (pl : Place) (c : ℕ) where
   pub asked-enters :
       l ≡ down.LeaseReq i → w ≡ true → pl ≡ place.FallBack → c ≡ s .F
       → (end .place ≡ place.Entering) × (end .letter ≡ letter.Approve)
-  unfolding arrived hearLeaseReq
+  unfolding arrived
   asked-enters sent ready here rested = rw (sent, eq-eqb i i refl, ready, here, eq-eqb c (s .F) rested) (refl, refl)
 
   pub granted-enters : l ≡ down.Grant i → pl ≡ place.Requesting → Stands end place.Entering 0
-  unfolding arrived hearGrant
+  unfolding arrived
   granted-enters sent here = rw (sent, eq-eqb i i refl, here) (record { place = refl; clock = refl })

@@ -1,16 +1,16 @@
 -- A fresh yard meets the invariant and a tick keeps it, so it holds after every tick of every roll.
-use Prim.Native.Nat.{ℕ, zero, suc, _+_, _-_, _≤_}
+use Prim.Native.Nat.{ℕ, zero, suc, _+_, _≤_}
 use native.Mathlib.Omega.{arith}
 use mathlib.Core.Path.{_≡_, refl}
 use mathlib.Core.List.{List}
-use lib.ListN.{getD-replicate}
 use Rattle.rules.specs.declared.Plan.{Plan}
 use Rattle.rules.specs.declared.Yard.{Yard}
-use Rattle.rules.specs.Yard.{device, freshDevice, freshYard}
+use Rattle.rules.specs.Yard.{device, freshYard}
 use Rattle.rules.specs.Run.{recordAt, after}
 use Rattle.rules.specs.Theorems.{Accepts}
 use Rattle.rules.specs.Promises.{yardAfter}
 use Rattle.rules.proofs.States.Formed.{Formed}
+use Rattle.rules.proofs.States.Fresh.{fresh-device}
 use Rattle.rules.proofs.Ticks.Keeps.{keeps}
 use Rattle.rules.proofs.Promises.Stays.Stay.{Idle}
 use Rattle.rules.proofs.Promises.Bases.Turns.{Prompt}
@@ -19,10 +19,6 @@ use Rattle.rules.proofs.Promises.Safe.Clauses.{Reached, Covered, Nested
 use Rattle.rules.proofs.Promises.Safe.Reach.{reached-kept}
 use Rattle.rules.proofs.Promises.Safe.Cover.{covered-kept}
 use Rattle.rules.proofs.Promises.Safe.Nest.{nested-kept}
-
-fresh-device : (i : ℕ) → 1 ≤ i → i ≤ 8 → device freshYard i ≡ freshDevice
-unfolding device freshYard
-fresh-device i low high = getD-replicate 8 (i - 1) freshDevice freshDevice (omega arith)
 
 module _ (p : Plan) (a : Accepts p) where
   pub fresh-idle : (i : ℕ) → 1 ≤ i → i ≤ p .N → Idle (device freshYard i .place)

@@ -4,7 +4,7 @@ use Rattle.rules.specs.declared.Plan.{Plan}
 use Rattle.rules.specs.declared.Yard.{Yard}
 use Rattle.rules.specs.Plan.{slot, stay, LS}
 use Rattle.rules.specs.Yard.{device}
-use Rattle.rules.specs.Tick.Step3.{baseIndex}
+use Rattle.rules.specs.Numbers.{baseIndex}
 use Rattle.rules.proofs.States.Formed.{Formed}
 use Rattle.rules.proofs.Promises.Stays.Stay.{Active, spent, age}
 use Rattle.rules.proofs.Promises.Bases.Turns.{Prompt}

@@ -7,7 +7,7 @@ use Rattle.rules.specs.declared.Yard.{Yard}
 use Rattle.rules.specs.declared.Record.{Record}
 use Rattle.rules.specs.Plan.{stay, LS}
 use Rattle.rules.specs.Tick.{tick}
-use Rattle.rules.specs.Tick.Step3.{baseIndex}
+use Rattle.rules.specs.Numbers.{baseIndex}
 use Rattle.rules.specs.Theorems.{Accepts}
 use Rattle.rules.proofs.States.Formed.{Formed}
 use Rattle.rules.proofs.Promises.Stays.Ticked.{tick-steps}

@@ -8,7 +8,7 @@ use Rattle.rules.specs.declared.Record.{Record}
 use Rattle.rules.specs.Plan.{slot, stay}
 use Rattle.rules.specs.Yard.{device}
 use Rattle.rules.specs.Tick.{tick}
-use Rattle.rules.specs.Tick.Step3.{baseIndex}
+use Rattle.rules.specs.Numbers.{baseIndex}
 use Rattle.rules.specs.Theorems.{Accepts}
 use Rattle.rules.proofs.States.Formed.{Formed}
 use Rattle.rules.proofs.Ticks.Views.{turn}

@@ -64,8 +64,7 @@ module _ (p : Plan) (i : ℕ) (x : Letter) where
 
   hears-lease :
       (l : Down) → asked l ≡ i → (w : Bool) (pl : Place) (c : ℕ)
-      → Heard l pl c (hearLeaseReq (slot p i) w pl c letter.None)
-  unfolding hearLeaseReq
+      → Heard l pl c (hearLeaseReq (slot p i) w pl (at pl c letter.None))
   hears-lease l here w place.FallBack c =
       on-cond (Heard l place.FallBack c) (eqb c (slot p i .F))
       (λ e. on-cond (Heard l place.FallBack c) w (λ q. starts here (eqb-true _ _ e) refl refl) (λ q. denies here refl refl refl))
@@ -76,8 +75,7 @@ module _ (p : Plan) (i : ℕ) (x : Letter) where
   hears-lease l here w place.Exiting1 c = same refl refl
   hears-lease l here w place.Exiting2 c = same refl refl
 
-  hears-grant : (l : Down) → asked l ≡ i → (pl : Place) (c : ℕ) → Heard l pl c (hearGrant pl c letter.None)
-  unfolding hearGrant
+  hears-grant : (l : Down) → asked l ≡ i → (pl : Place) (c : ℕ) → Heard l pl c (hearGrant pl (at pl c letter.None))
   hears-grant l here place.FallBack c = same refl refl
   hears-grant l here place.Requesting c = starts here tt refl refl
   hears-grant l here place.Entering c = same refl refl
@@ -86,8 +84,8 @@ module _ (p : Plan) (i : ℕ) (x : Letter) where
   hears-grant l here place.Exiting2 c = same refl refl
 
   hears-cancel :
-      (l : Down) → calledOff l ≡ i → (pl : Place) (c : ℕ) → Placed p i pl c → Heard l pl c (hearCancel pl c letter.None)
-  unfolding hearCancel engaged
+      (l : Down) → calledOff l ≡ i → (pl : Place) (c : ℕ) → Placed p i pl c → Heard l pl c (hearCancel pl (at pl c letter.None))
+  unfolding engaged
   hears-cancel l here place.FallBack c h = same refl refl
   hears-cancel l here place.Requesting c h = same refl refl
   hears-cancel l here place.Entering c h =

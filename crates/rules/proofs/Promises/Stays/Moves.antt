@@ -18,7 +18,7 @@ use Rattle.rules.specs.Plan.{slot}
 use Rattle.rules.specs.Yard.{at, engaged}
 use Rattle.rules.specs.Tick.Input.{request, cancel}
 use Rattle.rules.specs.Tick.Step1.{stopsAt, deviceClock, clocked}
-use Rattle.rules.specs.Tick.Step2.{due, dueMove, heedRequest, heedCancel, heed, moved, movedAt}
+use Rattle.rules.specs.Tick.Step2.{due, heedRequest, heedCancel, heed, moved, movedAt}
 use Rattle.rules.proofs.States.Formed.{Placed}
 use Rattle.rules.proofs.Promises.Stays.Stay.{Active, Idle, spent, age}
 
@@ -52,8 +52,8 @@ module _ (p : Plan) (i : ℕ) (r : Record) where
   -- heeded a cancel, holds after step 2.
   pub on-heed :
       (P : Device → Type 0) (d : Device)
-      → P d → P (heedRequest (slot p i) (d .place) (d .clock) (d .letter))
-      → (i ≡ p .N → r .command ≡ cancel → P (heedCancel (d .place) (d .clock) (d .letter)))
+      → P d → P (heedRequest (slot p i) (d .place) d)
+      → (i ≡ p .N → r .command ≡ cancel → P (heedCancel (d .place) d))
       → P (cond (eqb i (p .N)) (heed (slot p i) (r .command) d) d)
   unfolding heed
   on-heed P d still requested cancelled =
@@ -69,7 +69,7 @@ module _ (p : Plan) (i : ℕ) (r : Record) where
 
   moves-on :
       (pl : Place) (c : ℕ) (l : Letter) → Placed p i pl c → Onward pl c l (movedAt p r i (clocked p i (at pl c l)))
-  unfolding deviceClock moved due dueMove heedRequest heedCancel engaged
+  unfolding moved engaged
   moves-on place.FallBack c l h =
       let c' : ℕ = stopsAt (slot p i .F) c in
       on-heed (Onward place.FallBack c l) (at place.FallBack c' l) (rests none none)

@@ -37,7 +37,6 @@ module _ (p : Plan) (a : Accepts p) where
   later i l h = record { low = h .low; high = h .high; long = omega (arith, h .short) }
 
   pub clock-kept : (b : Base) (c l : ℕ) → Based p b c l → Clocked b (placeClock (terms p) b c) (leaseClock b l)
-  unfolding placeClock leaseClock
   clock-kept base.FallBack c l h = (stopped (p .B) c (h .0), h .1)
   clock-kept (base.Lease i) c l h = (
     later i l (h .0),

@@ -2,10 +2,10 @@
 use Prim.Native.Nat.{ℕ, _≤_, _<_}
 use native.Mathlib.Omega.{arith}
 use mathlib.Core.Path.{_≡_, refl}
-use mathlib.Core.Bool.{Bool, false}
+use mathlib.Core.Bool.{Bool, true, false}
 use lib.Dec.{ltb, eqb}
 use borrow.Author.Tests.{eqb-true}
-use Rattle.laws.proofs.Tests.{tests, on-cond}
+use Rattle.laws.proofs.Tests.{tests, on-cond, clash}
 use Rattle.rules.specs.declared.Plan.{Plan}
 use Rattle.rules.specs.declared.Place.{Place}
 use Rattle.rules.specs.declared.Place.the-variants as place
@@ -51,7 +51,6 @@ module _ (p : Plan) (a : Accepts p) where
     PlacedAt d = Placed p i (d .place) (d .clock)
 
     clock-kept : (pl : Place) (c : ℕ) → Placed p i pl c → Clocked pl (deviceClock (slot p i) pl c)
-    unfolding deviceClock
     clock-kept place.FallBack c h = stopped (slot p i .F) c h
     clock-kept place.Requesting c h = (h .0, omega arith)
     clock-kept place.Entering c h = omega arith
@@ -59,17 +58,15 @@ module _ (p : Plan) (a : Accepts p) where
     clock-kept place.Exiting1 c h = omega arith
     clock-kept place.Exiting2 c h = omega arith
 
-    due-placed : (pl : Place) (l : Letter) → PlacedAt (dueMove pl l)
-    unfolding dueMove
-    due-placed place.FallBack l = omega arith
-    due-placed place.Requesting l = omega arith
-    due-placed place.Entering l = a .deviceTimes i low used .2 .low
-    due-placed place.Running l = a .deviceTimes i low used .3 .low
-    due-placed place.Exiting1 l = omega arith
-    due-placed place.Exiting2 l = omega arith
+    due-placed : (pl : Place) (c : ℕ) (l : Letter) → due (p .Q) (slot p i) pl c ≡ true → PlacedAt (dueMove pl (at pl c l))
+    due-placed place.FallBack c l e = clash e refl
+    due-placed place.Requesting c l e = omega arith
+    due-placed place.Entering c l e = a .deviceTimes i low used .2 .low
+    due-placed place.Running c l e = a .deviceTimes i low used .3 .low
+    due-placed place.Exiting1 c l e = omega arith
+    due-placed place.Exiting2 c l e = omega arith
 
     still-placed : (pl : Place) (c : ℕ) → Clocked pl c → due (p .Q) (slot p i) pl c ≡ false → Placed p i pl c
-    unfolding due
     still-placed place.FallBack c h e = h
     still-placed place.Requesting c h e = (h .0, omega tests)
     still-placed place.Entering c h e = omega tests
@@ -78,8 +75,7 @@ module _ (p : Plan) (a : Accepts p) where
     still-placed place.Exiting2 c h e = omega tests
 
     request-placed :
-        i ≡ p .N → (pl : Place) (c : ℕ) (l : Letter) → Placed p i pl c → PlacedAt (heedRequest (slot p i) pl c l)
-    unfolding heedRequest
+        i ≡ p .N → (pl : Place) (c : ℕ) (l : Letter) → Placed p i pl c → PlacedAt (heedRequest (slot p i) pl (at pl c l))
     request-placed last place.FallBack c l h =
         on-cond PlacedAt (eqb c (slot p i .F)) (λ q. (last, a .yardTimes .2 .low)) (λ q. h)
     request-placed last place.Requesting c l h = h
@@ -88,8 +84,7 @@ module _ (p : Plan) (a : Accepts p) where
     request-placed last place.Exiting1 c l h = h
     request-placed last place.Exiting2 c l h = h
 
-    cancel-placed : (pl : Place) (c : ℕ) (l : Letter) → Placed p i pl c → PlacedAt (heedCancel pl c l)
-    unfolding heedCancel
+    cancel-placed : (pl : Place) (c : ℕ) (l : Letter) → Placed p i pl c → PlacedAt (heedCancel pl (at pl c l))
     cancel-placed place.FallBack c l h = h
     cancel-placed place.Requesting c l h = omega arith
     cancel-placed place.Entering c l h = a .deviceTimes i low used .3 .low
@@ -107,7 +102,7 @@ module _ (p : Plan) (a : Accepts p) where
     moved-placed : (r : Record) (d : Device) → Clocked (d .place) (d .clock) → PlacedAt (movedAt p r i d)
     unfolding moved
     moved-placed r d h =
-        on-cond PlacedAt (due (p .Q) (slot p i) (d .place) (d .clock)) (λ q. due-placed (d .place) (d .letter))
+        on-cond PlacedAt (due (p .Q) (slot p i) (d .place) (d .clock)) (λ q. due-placed (d .place) (d .clock) (d .letter) q)
         (λ q.
         let s : PlacedAt d = still-placed (d .place) (d .clock) h q in
         on-cond PlacedAt (eqb i (p .N)) (λ e. heed-placed (eqb-true _ _ e) (r .command) d s) (λ e. s))
@@ -122,8 +117,7 @@ module _ (p : Plan) (a : Accepts p) where
     Good d = Placed p i (d .place) (d .clock) × Lettered p i (d .letter) (d .place) (d .clock)
 
     lease-good :
-        i < p .N → (w : Bool) (pl : Place) (c : ℕ) → Placed p i pl c → Good (hearLeaseReq (slot p i) w pl c letter.None)
-    unfolding hearLeaseReq
+        i < p .N → (w : Bool) (pl : Place) (c : ℕ) → Placed p i pl c → Good (hearLeaseReq (slot p i) w pl (at pl c letter.None))
     lease-good below w place.FallBack c h =
         on-cond Good (eqb c (slot p i .F))
         (λ q.
@@ -136,8 +130,7 @@ module _ (p : Plan) (a : Accepts p) where
     lease-good below w place.Exiting1 c h = (h, tt)
     lease-good below w place.Exiting2 c h = (h, tt)
 
-    grant-good : (pl : Place) (c : ℕ) → Placed p i pl c → Good (hearGrant pl c letter.None)
-    unfolding hearGrant
+    grant-good : (pl : Place) (c : ℕ) → Placed p i pl c → Good (hearGrant pl (at pl c letter.None))
     grant-good place.FallBack c h = (h, tt)
     grant-good place.Requesting c h = (a .deviceTimes i low used .1 .low, tt)
     grant-good place.Entering c h = (h, tt)
@@ -145,8 +138,7 @@ module _ (p : Plan) (a : Accepts p) where
     grant-good place.Exiting1 c h = (h, tt)
     grant-good place.Exiting2 c h = (h, tt)
 
-    called-off-good : (pl : Place) (c : ℕ) → Placed p i pl c → Good (hearCancel pl c letter.None)
-    unfolding hearCancel
+    called-off-good : (pl : Place) (c : ℕ) → Placed p i pl c → Good (hearCancel pl (at pl c letter.None))
     called-off-good place.FallBack c h = (h, tt)
     called-off-good place.Requesting c h = (h, tt)
     called-off-good place.Entering c h = (a .deviceTimes i low used .3 .low, tt)

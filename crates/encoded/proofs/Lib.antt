@@ -1,5 +1,0 @@
-pub mod Widths
-pub mod Words
-pub mod Yards
-pub mod Malformed
-pub mod Bytes

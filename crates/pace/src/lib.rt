@@ -1,0 +1,117 @@
+// What one device does in a tick and what is heard of it, as far as it can be told for any device and any clock: no function
+// here has a `requires`. The run's loop in `yard` goes by these.
+use numbers::widths::broad;
+use rules::BaseMove;
+use rules::Device;
+use rules::Letter;
+use rules::Place;
+use vocabulary::down_index;
+use vocabulary::letter_number;
+use vocabulary::place_number;
+ghost use mathlib.Core.Path.{_≡_};
+ghost use mathlib.Core.Bool.{cond};
+ghost use Prim.Native.Nat.{_≤_};
+ghost use Rattle.laws.specs.Bits as bits;
+ghost use Rattle.rules.specs.Yard as rules;
+ghost use Rattle.rules.specs.Tick.Step1.{stopsAt};
+ghost use Rattle.pace.specs.Pace.{Paced, heardOf, reachedBy};
+
+// Bit k of a byte; from 8 on there is none.
+pub fn bit(b: u8, k: usize) -> bool
+    ensures { λ r. ⌜ r ≡ bits.bit b k ⌝ }
+{
+    if k < 8 {
+        return (b >> k) % 2 == 1;
+    }
+    false
+}
+
+// Whether a device in this place is engaged.
+pub fn engages(place: Place) -> bool
+    ensures { λ r. ⌜ r ≡ rules.engaged place ⌝ }
+{
+    match place {
+        Place::FallBack => false,
+        Place::Requesting => false,
+        Place::Entering => false,
+        Place::Running => true,
+        Place::Exiting1 => true,
+        Place::Exiting2 => false,
+    }
+}
+
+pub fn stops_at(limit: u16, clock: u16) -> u16
+    ensures { λ r. ⌜ r ≡ stopsAt limit clock ⌝ }
+{
+    if clock < limit { clock + 1 } else { clock }
+}
+
+// What a device does in a tick: only its clock moves, to this, or more than that.
+pub enum Pace {
+    NothingDue(u16),
+    Moves,
+}
+
+// Most of the time no letter waits, no command is heeded and nothing falls due. `time` is what the clock runs to in the place
+// where the device stands: in Fall-Back it stops there, elsewhere the device is due.
+pub fn pace_by(time: u16, command: u8, d: Device) -> Pace
+    ensures { λ r. ⌜ Paced time command d r ⌝ }
+{
+    let place = d.place;
+    let letter = d.letter;
+    if letter_number(letter) != 0 {
+        return Pace::Moves;
+    }
+    if place_number(place) == 0 {
+        if command == 1 {
+            return Pace::Moves;
+        }
+        return Pace::NothingDue(stops_at(time, d.clock));
+    }
+    if command == 2 {
+        return Pace::Moves;
+    }
+    if broad(d.clock) + 1 < broad(time) {
+        return Pace::NothingDue(d.clock + 1);
+    }
+    Pace::Moves
+}
+
+// What the supervisor hears of a letter that went up.
+pub fn heard(lost: bool, letter: Letter) -> Letter
+    ensures { λ r. ⌜ r ≡ heardOf lost letter ⌝ }
+{
+    if lost {
+        return Letter::None;
+    }
+    letter
+}
+
+// A device that has moved and whose letter has gone up, and what is heard of that letter.
+pub struct Risen {
+    pub device: Device,
+    pub heard: Letter,
+}
+
+// What is heard of the device that is listened to: of this one, where it is the one, else what was heard before.
+pub fn listen(here: bool, up: Risen, before: Letter) -> Letter
+    ensures { λ r. ⌜ r ≡ cond here (up .heard) before ⌝ }
+{
+    let heard = up.heard;
+    if here {
+        return heard;
+    }
+    before
+}
+
+// The device that the down letter reaches, of n: the one that it is for, unless it is lost; 0 for none.
+pub fn reached(n: u8, flags: u8, s: BaseMove) -> u8
+    ensures { λ r. ⌜ (r ≡ reachedBy n (bits.bit flags 1) (s .down)) × (r ≤ n) ⌝ }
+{
+    let down = s.down;
+    let i = down_index(down);
+    if (i <= n) & !bit(flags, 1) {
+        return i;
+    }
+    0
+}

@@ -1,4 +1,0 @@
-pub mod Back
-pub mod Rows
-pub mod Words
-pub mod Determined

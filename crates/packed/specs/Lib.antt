@@ -1,4 +1,0 @@
-pub mod Numbers
-pub mod Packed
-pub mod Times
-pub mod Theorems

@@ -1,0 +1,46 @@
+// One device of a tick, steps 1 and 2, until its letter has gone up.
+use crate::clocks::clocked;
+use pace::Pace;
+use pace::Risen;
+use pace::bit;
+use pace::heard;
+use pace::pace_by;
+use rules::Device;
+use rules::Letter;
+use rules::Slot;
+use vocabulary::place_number;
+ghost use Prim.Native.Nat.{_+_, _*_, _≤_, _<_};
+ghost use lib.ListN.{getD};
+ghost use Rattle.laws.specs.Bits as bits;
+ghost use Rattle.rules.specs.Numbers.{placeNumber};
+ghost use Rattle.rules.specs.Tick.Step2.{moved};
+ghost use Rattle.pace.specs.Pace.{clockedBy, Paced, Rises};
+
+// What the device at i does. The row has the times that clocks run to, six for each device, by the number of its place.
+pub(crate) fn pace_of(row: &[u16; 48], i: usize, command: u8, d: Device) -> Pace
+    requires { ⌜ i < 8 ⌝ }
+    ensures { λ r. ⌜ Paced (getD (now (row .entry)) (6 * i + placeNumber (d .place)) 0) command d r ⌝ }
+{
+    let place = d.place;
+    pace_by(row[6 * i + place_number(place) as usize], command, d)
+}
+
+// The device at i; the initializer alone heeds the command. Bit i of `lost` says that its letter is lost.
+pub(crate) fn rise(
+    q: u16,
+    s: Slot,
+    initializer: bool,
+    command: u8,
+    lost: u8,
+    i: usize,
+    d: Device,
+) -> Risen
+    requires { ⌜ (i < 8) × (d .clock ≤ 36000) ⌝ }
+    ensures { λ r. ⌜ Rises (bits.bit lost i) (moved q s initializer command (clockedBy s d)) r ⌝ }
+{
+    let m = device::moved(q, s, initializer, command, clocked(s, d));
+    let letter = m.letter;
+    let device = device::writes(Letter::None, m);
+    let heard = heard(bit(lost, i), letter);
+    Risen { device, heard }
+}
