@@ -54,11 +54,10 @@ pub enum Pace {
 
 // Most of the time no letter waits, no command is heeded and nothing falls due. `time` is what the clock runs to in the place
 // where the device stands: in Fall-Back it stops there, elsewhere the device is due.
-pub fn pace_by(time: u16, command: u8, d: Device) -> Pace
-    ensures { λ r. ⌜ Paced time command d r ⌝ }
+// It takes a device's three fields one by one: to load a device whole, right after its clock was stored, stalls.
+pub fn pace_by(time: u16, command: u8, place: Place, letter: Letter, clock: u16) -> Pace
+    ensures { λ r. ⌜ Paced time command (rules.at place clock letter) r ⌝ }
 {
-    let place = d.place;
-    let letter = d.letter;
     if letter_number(letter) != 0 {
         return Pace::Moves;
     }
@@ -66,13 +65,13 @@ pub fn pace_by(time: u16, command: u8, d: Device) -> Pace
         if command == 1 {
             return Pace::Moves;
         }
-        return Pace::NothingDue(stops_at(time, d.clock));
+        return Pace::NothingDue(stops_at(time, clock));
     }
     if command == 2 {
         return Pace::Moves;
     }
-    if broad(d.clock) + 1 < broad(time) {
-        return Pace::NothingDue(d.clock + 1);
+    if broad(clock) + 1 < broad(time) {
+        return Pace::NothingDue(clock + 1);
     }
     Pace::Moves
 }

@@ -22,7 +22,9 @@ pub(crate) fn pace_of(row: &[u16; 48], i: usize, command: u8, d: Device) -> Pace
     ensures { λ r. ⌜ Paced (getD (now (row .entry)) (6 * i + placeNumber (d .place)) 0) command d r ⌝ }
 {
     let place = d.place;
-    pace_by(row[6 * i + place_number(place) as usize], command, d)
+    let letter = d.letter;
+    let time = row[6 * i + place_number(place) as usize];
+    pace_by(time, command, place, letter, d.clock)
 }
 
 // The device at i; the initializer alone heeds the command. Bit i of `lost` says that its letter is lost.

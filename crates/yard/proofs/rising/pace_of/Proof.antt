@@ -4,7 +4,7 @@ use Rattle.pace.proofs.Quiet.{number-below}
 use Rattle.yard.proofs.rising.pace_of.Statement.{statement}
 use Rattle.yard.proofs.rising.pace_of.Tie as tie
 
-element-copy-out : tie.Need-element-copy-out-pace-by
+element-copy-out : tie.Need-element-copy-out-time
 element-copy-out c = omega (arith, number-below (c .before .args .d .place), c .place-number .ensures)
 
 pub pace-of-spec : {M : Type 1} → statement M
