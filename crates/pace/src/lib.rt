@@ -54,7 +54,6 @@ pub enum Pace {
 
 // Most of the time no letter waits, no command is heeded and nothing falls due. `time` is what the clock runs to in the place
 // where the device stands: in Fall-Back it stops there, elsewhere the device is due.
-// It takes a device's three fields one by one: to load a device whole, right after its clock was stored, stalls.
 pub fn pace_by(time: u16, command: u8, place: Place, letter: Letter, clock: u16) -> Pace
     ensures { λ r. ⌜ Paced time command (rules.at place clock letter) r ⌝ }
 {

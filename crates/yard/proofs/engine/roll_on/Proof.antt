@@ -106,7 +106,7 @@ loop2-again c =
     (⊎-elim
     (λ w.
     let still = rw (w .1 .given .1) at (c .before .pace-of .ensures) in
-    rw (w .4, w .5, w .6) (stays inv (without-command o (here .i) low) (set .before .row-of .ensures) still .0))
+    rw (w .5, w .4 .ensures, w .6, w .7) (stays inv (without-command o (here .i) low) (set .before .row-of .ensures) still .0))
     (λ w.
     rw (w .9, w .10, w .11 ∙ w .5 .ensures)
     (moves inv false 0 (participant o (here .i) low) (w .4 .ensures) (w .8 .ensures) .0))
@@ -145,8 +145,8 @@ arrive-requires c κs =
     let to = c .before .before .before .before .reached .ensures .1 in
     omega arith
 
-array-set-from-devices-3 : tie.Need-array-set-from-devices-3 Inv-loop2 μ-loop2 Inv-loop μ-loop
-array-set-from-devices-3 c =
+array-set-from-devices-5 : tie.Need-array-set-from-devices-5 Inv-loop2 μ-loop2 Inv-loop μ-loop
+array-set-from-devices-5 c =
     let tick = c .before .before .before .before .before .before .before .before .before .before .before .before .before .before .before .before in
     let names = ap (λ (t : Terms). t .N) (tick .before .before .before .before .before .before .terms-of .ensures) in
     let few = tick .loop .inv .ready .few in
@@ -197,7 +197,7 @@ loop-again c =
     ⊎-elim
     (λ w.
     let still = rw (w .1 .given .1) at (met .before .pace-of2 .ensures) in
-    rw (w .4, w .5, w .6, w .7) (stays inv (initializer o) (set .before .row-of .ensures) still))
+    rw (w .5, w .4 .ensures, w .6, w .7, w .8) (stays inv (initializer o) (set .before .row-of .ensures) still))
     (λ w.
     rw (w .9, w .10, w .11 ∙ w .5 .ensures, w .12)
     (moves inv true (r .command) (initializer o) (w .4 .ensures) (w .8 .ensures)))
@@ -245,13 +245,14 @@ roll-on-spec =
     Inv-loop2 μ-loop2 Inv-loop μ-loop terms-of-requires (λ c κs. search needs) (λ c κs. search needs)
     (λ c. search needs) engaged-byte-requires loop-holds (λ c κs. search needs) (λ c κs. search needs) loop2-holds
     (λ c. search needs) (λ c. search needs) (λ c κs. search needs) (λ c. search needs) (λ c. search needs)
-    (λ c. search needs) (λ c. search needs) (λ c. search needs) (λ c. search needs) (λ c. search needs)
-    (λ c. search needs) (λ c κs. search needs) (λ c κs. search needs) (λ c. search needs) (λ c. search needs)
-    rebit-requires (λ c. search needs) (λ c. search needs) (λ c. search needs) (λ c. search needs) loop2-again
-    (λ c. search needs) (λ c. search needs) pace-of-requires-2 (λ c. search needs) (λ c. search needs)
-    (λ c. search needs) (λ c. search needs) (λ c. search needs) (λ c. search needs) (λ c. search needs)
-    (λ c. search needs) rise-requires-2 (λ c κs. search needs) (λ c. search needs) (λ c. search needs)
-    rebit-requires-2 (λ c. search needs) (λ c. search needs) (λ c κs. search needs) (λ c κs. search needs)
-    (λ c κs. search needs) (λ c. search needs) (λ c. search needs) (λ c. search needs) array-copy-out-arrive-2
-    arrive-requires (λ c. search needs) array-set-from-devices-3 slice-write-engaged add-k (λ c. search needs)
-    loop-again same-length returns)
+    (λ c. search needs) (λ c κs. search needs) (λ c. search needs) (λ c. search needs) (λ c. search needs)
+    (λ c. search needs) (λ c. search needs) (λ c. search needs) (λ c. search needs) (λ c κs. search needs)
+    (λ c κs. search needs) (λ c. search needs) (λ c. search needs) rebit-requires (λ c. search needs)
+    (λ c. search needs) (λ c. search needs) (λ c. search needs) loop2-again (λ c. search needs)
+    (λ c. search needs) pace-of-requires-2 (λ c. search needs) (λ c. search needs) (λ c. search needs)
+    (λ c κs. search needs) (λ c. search needs) (λ c. search needs) (λ c. search needs) (λ c. search needs)
+    (λ c. search needs) (λ c. search needs) (λ c. search needs) rise-requires-2 (λ c κs. search needs)
+    (λ c. search needs) (λ c. search needs) rebit-requires-2 (λ c. search needs) (λ c. search needs)
+    (λ c κs. search needs) (λ c κs. search needs) (λ c κs. search needs) (λ c. search needs) (λ c. search needs)
+    (λ c. search needs) array-copy-out-arrive-2 arrive-requires (λ c. search needs) array-set-from-devices-5
+    slice-write-engaged add-k (λ c. search needs) loop-again same-length returns)
