@@ -1,8 +1,9 @@
 // What crosses to C and Rust: a verdict as its number and index, a piece by three numbers. No function here has a `requires`.
 use finder_rules::Piece;
 use rules::Verdict;
+use vocabulary::index_of;
+use vocabulary::number_of;
 ghost use mathlib.Core.Path.{_≡_};
-ghost use Rattle.rules.specs.Verdict.{numberOf, indexOf};
 ghost use Rattle.exports_rules.specs.Asked.{sizeVerdict};
 ghost use Rattle.exports_rules.specs.Calls.{Answered, whichOf, startOf, lengthOf};
 
@@ -17,24 +18,6 @@ pub fn size_verdict(fits: bool) -> Verdict
         };
     }
     Verdict::Accepted
-}
-
-fn number_of(v: Verdict) -> u8
-    ensures { λ r. ⌜ r ≡ numberOf v ⌝ }
-{
-    match v {
-        Verdict::Accepted => 0,
-        Verdict::Refused { number, index: _ } => number,
-    }
-}
-
-fn index_of(v: Verdict) -> usize
-    ensures { λ r. ⌜ r ≡ indexOf v ⌝ }
-{
-    match v {
-        Verdict::Accepted => 0,
-        Verdict::Refused { number: _, index } => index,
-    }
 }
 
 // The number is answered, the index goes behind the reference.

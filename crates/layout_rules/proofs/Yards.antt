@@ -24,7 +24,7 @@ use Rattle.layout_rules.specs.Bytes.{deviceBytes, devicesBytes, yardByte
 use Rattle.layout_rules.specs.Reading.{placeByte, letterByte, isYard, deviceIn, yardIn, yardOf}
 use Rattle.layout_rules.specs.Theorems.{YardBack}
 use Rattle.layout_rules.proofs.Widths.{device-wide, yard-wide}
-use Rattle.layout_rules.proofs.Numbers.{place-back, letter-back, base-back}
+use Rattle.rules.proofs.Numbers.{place-back, letter-back, base-back}
 use Rattle.layout_rules.proofs.Forms.{is-readable}
 
 -- No number stands for nothing.
