@@ -15,8 +15,8 @@ pub fn fresh_device() -> Device
     ensures { λ r. ⌜ r ≡ yard.freshDevice ⌝ }
 {
     Device {
-        clock: 0,
         place: Place::FallBack,
+        clock: 0,
         letter: Letter::None,
     }
 }
@@ -28,8 +28,8 @@ pub fn goes_to(place: Place, d: Device) -> Device
     let waiting = d.letter;
     let start: u16 = 0;
     Device {
-        clock: start,
         place,
+        clock: start,
         letter: waiting,
     }
 }
@@ -39,8 +39,8 @@ pub fn writes(letter: Letter, d: Device) -> Device
 {
     let place = d.place;
     Device {
-        clock: d.clock,
         place,
+        clock: d.clock,
         letter,
     }
 }
@@ -58,8 +58,8 @@ pub fn clock_at(clock: u16, d: Device) -> Device
     let place = d.place;
     let letter = d.letter;
     Device {
-        clock,
         place,
+        clock,
         letter,
     }
 }

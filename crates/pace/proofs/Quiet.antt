@@ -4,8 +4,8 @@ use native.Mathlib.Omega.{arith}
 use mathlib.Core.Path.{_≡_, refl, sym, _∙_}
 use mathlib.Core.Bool.{true, false}
 use lib.Dec.{eqb}
-use borrow.Author.Tests.{ne-eqb}
-use Rattle.laws.proofs.Tests.{case}
+use borrow.Author.Tests.{ne-eqb, lt-ltb, eqb-true, eqb-false, leb-false, not-false}
+use Rattle.laws.proofs.Tests.{case, or-none}
 use Rattle.times.specs.Times.{timeOf}
 use Rattle.rules.specs.declared.Slot.{Slot}
 use Rattle.rules.specs.declared.Place.{Place}
@@ -17,7 +17,9 @@ use Rattle.rules.specs.Yard.{clockAt}
 use Rattle.rules.specs.Numbers.{placeNumber, letterNumber}
 use Rattle.rules.specs.Tick.Step1.{stopsAt, deviceClock}
 use Rattle.rules.specs.Tick.Step2.{due, heed, heedRequest, moved}
-use Rattle.pace.specs.Pace.{clockedBy, Still}
+use Rattle.pace.specs.declared.Pace.{Pace}
+use Rattle.pace.specs.declared.Pace.the-variants as pace
+use Rattle.pace.specs.Pace.{clockedBy, stirring, paceBy}
 
 pub no-letter : (l : Letter) → letterNumber l ≡ 0 → l ≡ letter.None
 no-letter letter.None e = refl
@@ -82,17 +84,49 @@ module _ (Q : ℕ) (s : Slot) (command : ℕ) where
       let on = away (d .place) (d .clock) (clockAt (d .clock + 1) d) out later in
       undue d _ (on .0) (on .1) (rw (ne-eqb command 2 other) (case (eqb command 1) (λ q. rw q (on .2)) (λ q. rw q)))
 
-module _ (time command : ℕ) (d : Device) (silent : d .letter ≡ letter.None) where
-  pub still-resting :
-      (clock : ℕ) → placeNumber (d .place) ≡ 0 → (command ≡ 1 → ⊥) → clock ≡ stopsAt time (d .clock) → Still time command d clock
-  still-resting clock here other clock-is = record {
+-- Without a letter, steps 1 and 2 leave all but its clock, whatever its slot and Q are, if its clock runs to `time`.
+-- A participant does what the initializer does without a command.
+pub record Still (time command : ℕ) (d : Device) (clock : ℕ) : Type 0 where
+  pub silent : d .letter ≡ letter.None
+  pub device :
+      (Q : ℕ) (s : Slot) → time ≡ timeOf Q s (placeNumber (d .place))
+      → moved Q s true command (clockedBy s d) ≡ clockAt clock d
+
+module _ (time command : ℕ) (d : Device) where
+  -- What the device does leaves it still.
+  abbrev pub Paced : Pace → Type 0
+  Paced (pace.NothingDue clock) = Still time command d clock
+  Paced pace.Moves = Unit
+
+  still-resting :
+      d .letter ≡ letter.None → placeNumber (d .place) ≡ 0 → (command ≡ 1 → ⊥)
+      → Still time command d (stopsAt time (d .clock))
+  still-resting silent here other = record {
     silent = silent;
-    device = λ Q s time-is. rw (clock-is, time-is) (rests Q s command d here other);
+    device = λ Q s time-is. rw time-is (rests Q s command d here other);
   }
 
-  pub still-going :
-      (placeNumber (d .place) ≡ 0 → ⊥) → (command ≡ 2 → ⊥) → d .clock + 1 < time → Still time command d (d .clock + 1)
-  still-going out other early = record {
+  still-going :
+      d .letter ≡ letter.None → (placeNumber (d .place) ≡ 0 → ⊥) → (command ≡ 2 → ⊥) → d .clock + 1 < time
+      → Still time command d (stopsAt time (d .clock))
+  still-going silent out other early = record {
     silent = silent;
-    device = λ Q s time-is. goes-on Q s command d out other (λ e. omega (arith, early));
+    device = λ Q s time-is. rw (lt-ltb (d .clock) time (omega (arith, early))) (goes-on Q s command d out other (λ e. omega (arith, early)));
   }
+
+  unstirred : stirring time command d ≡ false → Still time command d (stopsAt time (d .clock))
+  unfolding stirring
+  unstirred calm =
+      case (eqb (placeNumber (d .place)) 0)
+      (λ here.
+      let none = or-none _ _ (rw here at calm) in
+      still-resting (no-letter (d .letter) (eqb-true _ _ (not-false _ (none .0)))) (eqb-true _ _ here) (eqb-false _ _ (none .1)))
+      (λ out.
+      let early = or-none _ _ (rw out at calm) in
+      let none = or-none _ _ (early .0) in
+      still-going (no-letter (d .letter) (eqb-true _ _ (not-false _ (none .0)))) (eqb-false _ _ out) (eqb-false _ _ (none .1))
+      (leb-false _ _ (early .1)))
+
+  pub paced : {r : Pace} → r ≡ paceBy time command d → Paced r
+  paced is =
+      rw is (case (stirring time command d) (λ q. rw q tt) (λ q. rw q (unstirred q)))

@@ -1,19 +1,17 @@
 -- One device of a tick, until its letter has gone up, and the device that a down letter reaches, as the run's loop computes
 -- them on the way; what a caller is promised is `tickAnswer` and `runAnswer` of the rules.
-use Prim.Native.Nat.{ℕ}
+use Prim.Native.Nat.{ℕ, _+_}
 use mathlib.Core.Path.{_≡_}
-use mathlib.Core.Bool.{Bool, true, not, _&&_, cond}
-use lib.Dec.{leb}
-use Rattle.times.specs.Times.{timeOf}
+use mathlib.Core.Bool.{Bool, not, _&&_, _||_, cond}
+use lib.Dec.{leb, eqb}
 use Rattle.rules.specs.declared.Slot.{Slot}
 use Rattle.rules.specs.declared.Device.{Device}
 use Rattle.rules.specs.declared.Letter.{Letter}
 use Rattle.rules.specs.declared.Letter.the-variants as letter
 use Rattle.rules.specs.declared.Down.{Down}
 use Rattle.rules.specs.Yard.{writes, clockAt}
-use Rattle.rules.specs.Numbers.{placeNumber, downIndex}
-use Rattle.rules.specs.Tick.Step1.{deviceClock}
-use Rattle.rules.specs.Tick.Step2.{moved}
+use Rattle.rules.specs.Numbers.{placeNumber, letterNumber, downIndex}
+use Rattle.rules.specs.Tick.Step1.{stopsAt, deviceClock}
 use Rattle.pace.specs.declared.Pace.{Pace}
 use Rattle.pace.specs.declared.Pace.the-variants as pace
 use Rattle.pace.specs.declared.Risen.{Risen}
@@ -26,17 +24,16 @@ clockedBy s d = clockAt (deviceClock s (d .place) (d .clock)) d
 abbrev pub heardOf : Bool → Letter → Letter
 heardOf lost l = cond lost letter.None l
 
--- Without a letter, steps 1 and 2 leave all but its clock, whatever its slot and Q are, if its clock runs to `time`.
--- A participant does what the initializer does without a command.
-pub record Still (time command : ℕ) (d : Device) (clock : ℕ) : Type 0 where
-  pub silent : d .letter ≡ letter.None
-  pub device :
-      (Q : ℕ) (s : Slot) → time ≡ timeOf Q s (placeNumber (d .place))
-      → moved Q s true command (clockedBy s d) ≡ clockAt clock d
+-- Whether more than a device's clock moves, if it runs to `time`: a letter waits, a command is heeded (a request in Fall-Back,
+-- elsewhere a cancel), or the clock comes to that time.
+unfoldable pub stirring : ℕ → ℕ → Device → Bool
+stirring time command d =
+    let waits = not (eqb (letterNumber (d .letter)) 0) in
+    cond (eqb (placeNumber (d .place)) 0) (waits || eqb command 1) ((waits || eqb command 2) || leb time (d .clock + 1))
 
-abbrev pub Paced : ℕ → ℕ → Device → Pace → Type 0
-Paced time command d (pace.NothingDue clock) = Still time command d clock
-Paced time command d pace.Moves = Unit
+-- What a device does in a tick.
+abbrev pub paceBy : ℕ → ℕ → Device → Pace
+paceBy time command d = cond (stirring time command d) pace.Moves (pace.NothingDue (stopsAt time (d .clock)))
 
 -- d has moved: it is left without its letter, which is heard.
 pub record Rises (lost : Bool) (d : Device) (r : Risen) : Type 0 where

@@ -14,7 +14,7 @@ ghost use Prim.Native.Nat.{_≤_};
 ghost use Rattle.laws.specs.Bits as bits;
 ghost use Rattle.rules.specs.Yard as rules;
 ghost use Rattle.rules.specs.Tick.Step1.{stopsAt};
-ghost use Rattle.pace.specs.Pace.{Paced, heardOf, reachedBy};
+ghost use Rattle.pace.specs.Pace.{stirring, paceBy, heardOf, reachedBy};
 
 // Bit k of a byte; from 8 on there is none.
 pub fn bit(b: u8, k: usize) -> bool
@@ -52,27 +52,27 @@ pub enum Pace {
     Moves,
 }
 
-// Most of the time no letter waits, no command is heeded and nothing falls due. `time` is what the clock runs to in the place
-// where the device stands: in Fall-Back it stops there, elsewhere the device is due.
-pub fn pace_by(time: u16, command: u8, place: Place, letter: Letter, clock: u16) -> Pace
-    ensures { λ r. ⌜ Paced time command (rules.at place clock letter) r ⌝ }
+// Whether more than its clock moves: a letter waits, a command is heeded (a request in Fall-Back, elsewhere a cancel), or the
+// clock comes to `time`.
+fn stirs(time: u16, command: u8, place: Place, letter: Letter, clock: u16) -> bool
+    ensures { λ r. ⌜ r ≡ stirring time command (rules.at place clock letter) ⌝ }
 {
-    if letter_number(letter) != 0 {
-        return Pace::Moves;
-    }
+    let waits = letter_number(letter) != 0;
     if place_number(place) == 0 {
-        if command == 1 {
-            return Pace::Moves;
-        }
-        return Pace::NothingDue(stops_at(time, clock));
+        return waits | (command == 1);
     }
-    if command == 2 {
+    waits | (command == 2) | (broad(clock) + 1 >= broad(time))
+}
+
+// What a device does, if its clock runs to `time` in the place where it stands: in Fall-Back it stops there, elsewhere the
+// device is due. Most of the time only the clock moves.
+pub fn pace_by(time: u16, command: u8, place: Place, letter: Letter, clock: u16) -> Pace
+    ensures { λ r. ⌜ r ≡ paceBy time command (rules.at place clock letter) ⌝ }
+{
+    if stirs(time, command, place, letter, clock) {
         return Pace::Moves;
     }
-    if broad(clock) + 1 < broad(time) {
-        return Pace::NothingDue(clock + 1);
-    }
-    Pace::Moves
+    Pace::NothingDue(stops_at(time, clock))
 }
 
 // What the supervisor hears of a letter that went up.
@@ -108,6 +108,10 @@ pub fn reached(n: u8, flags: u8, s: BaseMove) -> u8
 {
     let down = s.down;
     let i = down_index(down);
+    // Most ticks send none.
+    if i == 0 {
+        return 0;
+    }
     if (i <= n) & !bit(flags, 1) {
         return i;
     }

@@ -29,21 +29,21 @@ sameLetter a b = eqb (letterNumber a) (letterNumber b)
 
 -- Each device holds its place, its clock and at most one letter waiting to go up.
 abbrev pub at : Place → ℕ → Letter → Device
-at place clock letter = record { clock = clock; place = place; letter = letter }
+at place clock letter = record { place = place; clock = clock; letter = letter }
 
 -- A device changes in these ways and keeps the rest of itself. It goes to a place, where its clock starts at 0; it writes a
 -- letter; it does both; its clock comes to a count. Where nothing changes it stays `d`.
 abbrev pub goesTo : Place → Device → Device
-goesTo place d = record { clock = 0; place = place; letter = d .letter }
+goesTo place d = record { place = place; clock = 0; letter = d .letter }
 
 abbrev pub writes : Letter → Device → Device
-writes letter d = record { clock = d .clock; place = d .place; letter = letter }
+writes letter d = record { place = d .place; clock = d .clock; letter = letter }
 
 abbrev pub goesWriting : Place → Letter → Device → Device
 goesWriting place letter d = writes letter (goesTo place d)
 
 abbrev pub clockAt : ℕ → Device → Device
-clockAt clock d = record { clock = clock; place = d .place; letter = d .letter }
+clockAt clock d = record { place = d .place; clock = clock; letter = d .letter }
 
 abbrev pub freshDevice : Device
 freshDevice = at place.FallBack 0 letter.None

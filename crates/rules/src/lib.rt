@@ -59,10 +59,11 @@ pub enum Letter {
     Exit,
 }
 
-// The clock stands first so that a device takes four bytes.
+// Each device holds its place, its clock and at most one letter waiting to go up. In this order a device takes six bytes, and a
+// clock is stored without touching the place beside it; with the clock first it would be read back whole, and wait for that.
 pub struct Device {
-    pub clock: u16,
     pub place: Place,
+    pub clock: u16,
     pub letter: Letter,
 }
 

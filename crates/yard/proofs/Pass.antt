@@ -22,10 +22,10 @@ use Rattle.rules.specs.Yard.{writes, clockAt, freshDevice}
 use Rattle.rules.specs.Numbers.{placeNumber}
 use Rattle.rules.specs.Tick.Step2.{heed, moved}
 use Rattle.pace.specs.declared.Risen.{Risen}
-use Rattle.pace.specs.Pace.{clockedBy, heardOf, Still, Rises}
+use Rattle.pace.specs.Pace.{clockedBy, heardOf, Rises}
 use Rattle.yard.specs.Engaged.{bitOf, byteOf}
 use Rattle.yard.proofs.Sweeps.{sweep, risenBy, back, sweep-length, sweep-start, sweep-here, sweep-next, sweep-done}
-use Rattle.pace.proofs.Quiet.{number-below}
+use Rattle.pace.proofs.Quiet.{number-below, Still}
 use Rattle.yard.proofs.Bytes.{byte-set, byte-has, byte-fits}
 
 -- A plan and a record, where the initializer stands and the device that is listened to, and the devices as they were.

@@ -12,7 +12,6 @@ use crate::clocks::lease_clock;
 use crate::clocks::place_clock;
 use crate::rising::pace_of;
 use crate::rising::rise;
-use device::clock_at;
 use lease::lease_length;
 use pace::Pace;
 use pace::bit;
@@ -122,7 +121,8 @@ pub(crate) fn roll_on(p: Plan, y: Yard, roll: &[u8], ticks: usize, engaged: &mut
         lease: y.lease,
         down: Down::None,
     };
-    // The byte changes only where a device moves.
+    // The byte changes only where a device moves. To read a device whose clock has just been stored would cost more than all
+    // else in a tick in which nothing is due.
     let mut byte = engaged_byte(last + 1, devices);
     let mut k: usize = 0;
     while k < ticks {
@@ -135,7 +135,7 @@ pub(crate) fn roll_on(p: Plan, y: Yard, roll: &[u8], ticks: usize, engaged: &mut
             let pace = pace_of(&row, i, 0, devices[i]);
             match pace {
                 Pace::NothingDue(clock) => {
-                    devices[i] = clock_at(clock, devices[i]);
+                    devices[i].clock = clock;
                 }
                 Pace::Moves => {
                     let up = rise(p.Q, slots[i], false, 0, r.lost, i, devices[i]);
@@ -151,7 +151,7 @@ pub(crate) fn roll_on(p: Plan, y: Yard, roll: &[u8], ticks: usize, engaged: &mut
         let pace = pace_of(&row, last, r.command, devices[last]);
         match pace {
             Pace::NothingDue(clock) => {
-                devices[last] = clock_at(clock, devices[last]);
+                devices[last].clock = clock;
             }
             Pace::Moves => {
                 let up = rise(

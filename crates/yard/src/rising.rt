@@ -9,17 +9,18 @@ use rules::Device;
 use rules::Letter;
 use rules::Slot;
 use vocabulary::place_number;
+ghost use mathlib.Core.Path.{_≡_};
 ghost use Prim.Native.Nat.{_+_, _*_, _≤_, _<_};
 ghost use lib.ListN.{getD};
 ghost use Rattle.laws.specs.Bits as bits;
 ghost use Rattle.rules.specs.Numbers.{placeNumber};
 ghost use Rattle.rules.specs.Tick.Step2.{moved};
-ghost use Rattle.pace.specs.Pace.{clockedBy, Paced, Rises};
+ghost use Rattle.pace.specs.Pace.{clockedBy, paceBy, Rises};
 
 // What the device at i does. The row has the times that clocks run to, six for each device, by the number of its place.
 pub(crate) fn pace_of(row: &[u16; 48], i: usize, command: u8, d: Device) -> Pace
     requires { ⌜ i < 8 ⌝ }
-    ensures { λ r. ⌜ Paced (getD (now (row .entry)) (6 * i + placeNumber (d .place)) 0) command d r ⌝ }
+    ensures { λ r. ⌜ r ≡ paceBy (getD (now (row .entry)) (6 * i + placeNumber (d .place)) 0) command d ⌝ }
 {
     let place = d.place;
     let letter = d.letter;

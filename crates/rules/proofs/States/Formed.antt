@@ -185,7 +185,7 @@ fresh-is d e =
     let q : d .place ≡ place.FallBack = same-place (d .place) place.FallBack (h .0) in
     let c : d .clock ≡ 0 = eqb-true _ _ (h .1 .0) in
     let l : d .letter ≡ letter.None = same-letter (d .letter) letter.None (h .1 .1 .0) in
-    λ j. record { clock = c j; place = q j; letter = l j }
+    λ j. record { place = q j; clock = c j; letter = l j }
 
 module _ (p : Plan) (y : Yard) where
   pub formed-is : wellFormed p y ≡ true → Formed p y

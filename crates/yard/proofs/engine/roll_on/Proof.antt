@@ -19,6 +19,7 @@ use Rattle.pace.specs.Pace.{reachedBy}
 use Rattle.laws.specs.Bits.{bit}
 use Rattle.rules.specs.Tick.Step4.{arrived}
 use Rattle.yard.specs.Engaged.{deviceAt, byteOf}
+use Rattle.pace.proofs.Quiet.{paced}
 use Rattle.yard.proofs.Sweeps.{slotAt, sweep, deliveredBy, sweep-length}
 use Rattle.yard.proofs.Ready.{ready}
 use Rattle.yard.proofs.Pass.{Pass, Passed, Come, leaves, hears, participant, without-command, initializer, stays, moves, next-passed, rebits}
@@ -105,8 +106,8 @@ loop2-again c =
     next-passed inv low
     (⊎-elim
     (λ w.
-    let still = rw (w .1 .given .1) at (c .before .pace-of .ensures) in
-    rw (w .5, w .4 .ensures, w .6, w .7) (stays inv (without-command o (here .i) low) (set .before .row-of .ensures) still .0))
+    let still = rw (w .1 .given .1) at (paced _ _ _ (c .before .pace-of .ensures)) in
+    rw (w .4, w .5, w .6) (stays inv (without-command o (here .i) low) (set .before .row-of .ensures) still .0))
     (λ w.
     rw (w .9, w .10, w .11 ∙ w .5 .ensures)
     (moves inv false 0 (participant o (here .i) low) (w .4 .ensures) (w .8 .ensures) .0))
@@ -145,8 +146,8 @@ arrive-requires c κs =
     let to = c .before .before .before .before .reached .ensures .1 in
     omega arith
 
-array-set-from-devices-5 : tie.Need-array-set-from-devices-5 Inv-loop2 μ-loop2 Inv-loop μ-loop
-array-set-from-devices-5 c =
+array-set-from-devices-3 : tie.Need-array-set-from-devices-3 Inv-loop2 μ-loop2 Inv-loop μ-loop
+array-set-from-devices-3 c =
     let tick = c .before .before .before .before .before .before .before .before .before .before .before .before .before .before .before .before in
     let names = ap (λ (t : Terms). t .N) (tick .before .before .before .before .before .before .terms-of .ensures) in
     let few = tick .loop .inv .ready .few in
@@ -196,8 +197,8 @@ loop-again c =
     let come : Come o (last + 1) left from-own byte × (from-last ≡ hears o last) =
     ⊎-elim
     (λ w.
-    let still = rw (w .1 .given .1) at (met .before .pace-of2 .ensures) in
-    rw (w .5, w .4 .ensures, w .6, w .7, w .8) (stays inv (initializer o) (set .before .row-of .ensures) still))
+    let still = rw (w .1 .given .1) at (paced _ _ _ (met .before .pace-of2 .ensures)) in
+    rw (w .4, w .5, w .6, w .7) (stays inv (initializer o) (set .before .row-of .ensures) still))
     (λ w.
     rw (w .9, w .10, w .11 ∙ w .5 .ensures, w .12)
     (moves inv true (r .command) (initializer o) (w .4 .ensures) (w .8 .ensures)))
@@ -245,14 +246,13 @@ roll-on-spec =
     Inv-loop2 μ-loop2 Inv-loop μ-loop terms-of-requires (λ c κs. search needs) (λ c κs. search needs)
     (λ c. search needs) engaged-byte-requires loop-holds (λ c κs. search needs) (λ c κs. search needs) loop2-holds
     (λ c. search needs) (λ c. search needs) (λ c κs. search needs) (λ c. search needs) (λ c. search needs)
-    (λ c. search needs) (λ c κs. search needs) (λ c. search needs) (λ c. search needs) (λ c. search needs)
-    (λ c. search needs) (λ c. search needs) (λ c. search needs) (λ c. search needs) (λ c κs. search needs)
-    (λ c κs. search needs) (λ c. search needs) (λ c. search needs) rebit-requires (λ c. search needs)
-    (λ c. search needs) (λ c. search needs) (λ c. search needs) loop2-again (λ c. search needs)
-    (λ c. search needs) pace-of-requires-2 (λ c. search needs) (λ c. search needs) (λ c. search needs)
-    (λ c κs. search needs) (λ c. search needs) (λ c. search needs) (λ c. search needs) (λ c. search needs)
-    (λ c. search needs) (λ c. search needs) (λ c. search needs) rise-requires-2 (λ c κs. search needs)
-    (λ c. search needs) (λ c. search needs) rebit-requires-2 (λ c. search needs) (λ c. search needs)
-    (λ c κs. search needs) (λ c κs. search needs) (λ c κs. search needs) (λ c. search needs) (λ c. search needs)
-    (λ c. search needs) array-copy-out-arrive-2 arrive-requires (λ c. search needs) array-set-from-devices-5
-    slice-write-engaged add-k (λ c. search needs) loop-again same-length returns)
+    (λ c. search needs) (λ c. search needs) (λ c. search needs) (λ c. search needs) (λ c. search needs)
+    (λ c. search needs) (λ c κs. search needs) (λ c κs. search needs) (λ c. search needs) (λ c. search needs)
+    rebit-requires (λ c. search needs) (λ c. search needs) (λ c. search needs) (λ c. search needs) loop2-again
+    (λ c. search needs) (λ c. search needs) pace-of-requires-2 (λ c. search needs) (λ c. search needs)
+    (λ c. search needs) (λ c. search needs) (λ c. search needs) (λ c. search needs) (λ c. search needs)
+    (λ c. search needs) rise-requires-2 (λ c κs. search needs) (λ c. search needs) (λ c. search needs)
+    rebit-requires-2 (λ c. search needs) (λ c. search needs) (λ c κs. search needs) (λ c κs. search needs)
+    (λ c κs. search needs) (λ c. search needs) (λ c. search needs) (λ c. search needs) array-copy-out-arrive-2
+    arrive-requires (λ c. search needs) array-set-from-devices-3 slice-write-engaged add-k (λ c. search needs)
+    loop-again same-length returns)
