@@ -1,18 +1,45 @@
 // The program that crews run, as a library: it rehearses the plan in `yard.plan` on the roll in `yard.roll`, both in the
 // current folder, from a fresh yard, and prints the listing, or `refused NUMBER INDEX` and nothing else.
-// A file that is missing, or that cannot be read, counts as empty.
+// A file that is missing, or that cannot be read to its end, counts as empty; a line on standard error says which and why.
+// Where standard output cannot be written the program stops at once, and a line on standard error says why.
 use libc::STDOUT_FILENO;
 use rules::Plan;
 use rules::Verdict;
 use rules::Yard;
 
+// Reads to the file's end, or to the buffer's, and answers how many bytes; 0 where a read fails, since what came before it is
+// not the file. Each turn reads a byte or more.
+fn fill(fd: i32, path: &[u8], buffer: &mut [u8]) -> usize {
+    let mut done: usize = 0;
+    let mut turns = buffer.len();
+    while turns > 0 {
+        if buffer.len() < done {
+            break;
+        }
+        let rest = &mut buffer[done..];
+        let got = libc::read(fd, rest);
+        if got < 0 {
+            os::fail(path);
+            return 0;
+        }
+        let more = io::count(got, rest);
+        if more == 0 {
+            break;
+        }
+        done = std::num::wrapping_add_usize(done, more);
+        turns -= 1;
+    }
+    done
+}
+
 // The bytes of a file, as many as the buffer holds; it answers how many.
 fn load(path: &[u8], buffer: &mut [u8]) -> usize {
     let fd = os::open_read(path);
     if fd < 0 {
+        os::fail(path);
         return 0;
     }
-    let got = io::read_full(fd, buffer);
+    let got = fill(fd, path, buffer);
     libc::close(fd);
     if buffer.len() < got {
         return 0;
@@ -20,20 +47,13 @@ fn load(path: &[u8], buffer: &mut [u8]) -> usize {
     got
 }
 
+// Whether all of a text was written.
 fn say(text: &[u8]) -> bool {
     let written = io::write_all(STDOUT_FILENO, text);
     if !written {
         os::fail(b"standard output");
     }
     written
-}
-
-fn refuse(number: u8, index: usize) {
-    say(b"refused ");
-    io::print_decimal(STDOUT_FILENO, number as u64);
-    say(b" ");
-    io::print_decimal(STDOUT_FILENO, index as u64);
-    say(b"\n");
 }
 
 // The first `len` bytes of a block, if it has them.
@@ -77,10 +97,20 @@ fn say_lines(p: Plan, fresh: Yard, roll: &[u8]) {
     }
 }
 
-fn say_header(n: u16) {
+fn say_header(n: u16) -> bool {
     let mut block = [0u8; listing::LINE_ROOM];
     let len = listing::header(n, &mut block, 0);
-    say_first(&block, len);
+    say_first(&block, len)
+}
+
+fn refuse(number: u8, index: usize) {
+    let mut line = [0u8; 64];
+    let named = text::word(b"refused ", &mut line, 0);
+    let numbered = text::number(number as usize, &mut line, named);
+    let spaced = text::byte(b' ', &mut line, numbered);
+    let indexed = text::number(index, &mut line, spaced);
+    let len = text::byte(b'\n', &mut line, indexed);
+    say_first(&line, len);
 }
 
 // A plan that is taken, and its roll: refused as a whole, or listed.
@@ -91,8 +121,9 @@ fn show_roll(p: Plan, roll: &[u8]) {
     match verdict {
         Verdict::Refused { number, index } => refuse(number, index),
         Verdict::Accepted => {
-            say_header(p.N);
-            say_lines(p, y, roll);
+            if say_header(p.N) {
+                say_lines(p, y, roll);
+            }
         }
     }
 }
