@@ -5,8 +5,9 @@
  * not the plan, not the file, not the text.
  *
  * What a caller owes: no pointer is NULL (not even for a length of 0), each points to as many bytes as its length says, and
- * what a call may write overlaps nothing else that it is handed. Each call is proved for every caller that keeps to this;
- * no call keeps anything between calls.
+ * what a call may write overlaps nothing else that it is handed. Nobody else changes lent bytes while a call goes on: not
+ * another thread, not a signal handler, not a file that is mapped and being written. Each call is proved for every caller that
+ * keeps to this; no call keeps anything between calls, and calls with bytes of their own may go on side by side.
  *
  * Most calls answer a refusal's number, 0 for none, and its `index`:
  *
@@ -92,6 +93,11 @@ size_t wilatkhun_header(uint16_t n, uint8_t *out, size_t out_len, size_t at);
 /* Writes a listing's lines, one a tick, numbered from first + 1, and moves the yard in place: as many ticks of the roll as
  * have room, each begun only with 64 bytes left. `ticks` says how many, `length` how many bytes of text. A caller goes on
  * from the same yard with the rest of the roll and first + ticks.
+ * With fewer than 64 bytes lent it does 0 ticks and answers 0, as it does for an empty roll: a loop that goes on while records
+ * are left must end when `ticks` is 0. It looks at all of the roll that it is given, each time: of a long roll, lend the first
+ * call all, so that it is refused as a whole, and each later call no more records than its text has room for.
+ * Numbers in the text are exact, also above 4,294,967,295. Where first + ticks is above that, no further call can be given its
+ * first number: end the listing there, or begin another with a first of its own.
  * Refused with 27, 1 to 9, 11, 12, then 10 for any record of the whole roll; 0 ticks are then done. */
 uint8_t wilatkhun_list(const uint8_t *plan, size_t plan_len, uint8_t *yard, size_t yard_len, const uint8_t *roll,
                        size_t roll_len, uint32_t first, uint8_t *out, size_t out_len, size_t *ticks, size_t *length,

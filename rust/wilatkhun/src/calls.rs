@@ -12,6 +12,8 @@ pub const PLAN: usize = 104;
 pub const YARD: usize = 40;
 /// The most bytes that [`write`] writes: 18 + 12 × 8.
 pub const FILE: usize = 114;
+/// The bytes of a record in a roll.
+pub const RECORD: usize = 4;
 /// A header or line is begun only with this much room left.
 pub const ROOM: usize = 64;
 
@@ -123,7 +125,7 @@ pub fn header(n: u16, out: &mut [u8], at: usize) -> usize {
 }
 
 /// Writes a listing's lines, numbered from `first` + 1, and moves the yard in place: as many ticks as have room, each
-/// begun only with [`ROOM`] bytes left. Refused with 27, 1 to 9, 11, 12, then 10 for any record of the whole roll.
+/// begun only with [`ROOM`] bytes left; with fewer bytes lent it does 0 ticks, and a loop over pages must end there. Refused with 27, 1 to 9, 11, 12, then 10 for any record of the whole roll.
 pub fn list(plan: &[u8], yard: &mut [u8], roll: &[u8], first: u32, out: &mut [u8]) -> Listed {
     let (number, index, ticks, length) = ffi::list(plan, yard, roll, first, out);
     Listed { verdict: Verdict { number, index }, ticks, length }

@@ -2,7 +2,8 @@
 //!
 //! [`calls`] has the library's nine calls over slices, exactly as `include/wilatkhun.h` describes them. The rest is a
 //! small layer of types on top: a [`Plan`], a [`Yard`] that moves under it, and a [`Refusal`] that says what is wrong.
-//! No call panics, allocates or keeps anything; one that refuses changes nothing that was lent to it.
+//! No call panics or keeps anything, and one that refuses changes nothing that was lent to it. None allocates but
+//! [`listing`], which answers its whole text as a `String`.
 //!
 //! The library is linked from `target/staticlib` at the repository's root; `rt staticlib exports` writes it.
 #![deny(unsafe_code)]

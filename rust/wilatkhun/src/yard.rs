@@ -83,7 +83,10 @@ impl Yard {
         Ok(yard)
     }
 
-    /// A yard that was kept as bytes. Refused with 11 for bytes that are no yard's under any plan.
+    /// A yard that was kept as bytes, laid out as `include/wilatkhun.h` says. It takes all bytes that have a meaning there: a
+    /// known kind of base (with device 0 in Fall-Back), known places and known letters, with any clocks and any device of the
+    /// base. Others are refused with 11. Whether the state is well formed depends on the plan: the calls that take both judge
+    /// it, and refuse it with 11 too.
     pub fn from_bytes(bytes: [u8; YARD]) -> Result<Yard, Refusal> {
         let known = base_of(bytes[0], bytes[1]).is_some() && bytes[8..].chunks_exact(4).all(|d| device_of(d).is_some());
         if known {

@@ -97,9 +97,16 @@ fn the_first_listing() {
 #[test]
 fn refusals_have_words() {
     let said = |number, index| Refusal { number, index }.to_string();
-    assert_eq!(said(8, 1), "refused 8 1: device 1 may exit before device 2 has left");
-    assert_eq!(said(10, 7), "refused 10 7: record 7 has a command or a bit that means nothing");
-    assert_ne!(said(2, 0), said(2, 1));
+    assert_eq!(
+        said(8, 1),
+        "refused 8 1: a device may exit before the next has left (c6) (index: the device before); \
+         what to do: lengthen its running, or shorten the next device's stay"
+    );
+    assert_eq!(
+        said(10, 7),
+        "refused 10 7: a record of the roll has a bit or command that means nothing (index: its number from 1); \
+         what to do: mend or drop that record"
+    );
     for number in (1..=20).chain([27]) {
         assert!(!said(number, 0).contains("no refusal has"), "{number}");
     }
