@@ -15,7 +15,7 @@ ghost use Rattle.laws.specs.Lists.{tabulate};
 ghost use Rattle.text_rules.specs.Decimal.{decimal};
 ghost use Rattle.text_rules.specs.Laid.{Laid};
 ghost use Rattle.rules.specs.Yard.{freshDevice};
-ghost use Rattle.listing_rules.specs.Text.{supText, placeByte, placeText, mark, downText, spaced};
+ghost use Rattle.listing_rules.specs.Text.{supText, placeSign, placeText, mark, downText, spaced};
 
 // A field of one byte.
 pub fn short(b: u8, out: &mut [u8], at: usize) -> usize
@@ -45,7 +45,7 @@ pub fn supervisor(base: Base, out: &mut [u8], at: usize) -> usize
 }
 
 fn place_byte(place: Place) -> u8
-    ensures { λ r. ⌜ r ≡ placeByte place ⌝ }
+    ensures { λ r. ⌜ r ≡ placeSign place ⌝ }
 {
     match place {
         Place::FallBack => b'F',

@@ -4,10 +4,10 @@ use native.Mathlib.Omega.{arith}
 use native.Mathlib.Nat.{div-eq-of-lt, add-div-right, add-mul-div-left, add-mul-mod-self-right, add-zero, div-one, pow-suc, one-mul, div-lt-iff-lt-mul, lt-of-lt-of-le}
 use mathlib.Core.Path.{_≡_, refl, _∙_, ap}
 use mathlib.Core.Bool.{Bool, true, false, cond}
-use lib.Dec.{eqb, ltb}
+use lib.Dec.{eqb}
 use lib.Arith.{bin-ind}
 use lib.Pow.{pow-pos, pow-add, pow-mono, shr-shr}
-use borrow.Author.Tests.{ltb-true, eqb-true, eqb-false, lt-ltb, ne-eqb}
+use borrow.Author.Tests.{ltb-true, eqb-true, eqb-false, lt-ltb}
 use mathlib.Core.Logic.{_↔_}
 use Rattle.laws.specs.Bits.{bit, clearFrom, ofBits}
 use Rattle.laws.proofs.Tests.{case, tests}
@@ -87,14 +87,3 @@ clear-exactly k b = (
       let z : b / 2 ^ k ≡ 0 = no-bits (b / 2 ^ k) (λ j. rw (shr-shr b k j) (none (k + j) (omega arith))) in
       lt-ltb b (2 ^ k) (rw one-mul at (div-lt-iff-lt-mul {x = b} {y = 1} (pow-pos k) .0 (omega arith))),
 )
-
--- The same by a shift: nothing is left of the number past its first k bits.
-pub clear-is : (k b : ℕ) → eqb (b / 2 ^ k) 0 ≡ clearFrom k b
-unfolding clearFrom
-clear-is k b =
-    case (ltb b (2 ^ k))
-    (λ q. rw (q, div-eq-of-lt (ltb-true b (2 ^ k) q)))
-    (λ q.
-    rw q
-    (ne-eqb (b / 2 ^ k) 0
-    (λ z. absurd (omega (tests, q, rw one-mul at (div-lt-iff-lt-mul {x = b} {y = 1} (pow-pos k) .0 (omega arith)))))))

@@ -28,10 +28,6 @@ pub on-cond {ℓ κ} :
 on-cond P true this that = this refl
 on-cond P false this that = that refl
 
-pub not-of : {b : Bool} → b ≡ false → not b ≡ true
-not-of {b = true} e = absurd (true≢false e)
-not-of {b = false} e = refl
-
 -- A test that cannot fail holds, and the other way round.
 pub holds : {b : Bool} → (b ≡ false → ⊥) → b ≡ true
 holds {b = true} h = refl

@@ -50,12 +50,6 @@ past-end a l at h = record { buffer = sym (sets-past a l at h); stands = refl }
 pub length-kept : {l x a : List ℕ} {at end : ℕ} → Written l at a x end → length x ≡ length l
 length-kept {l} {x} {a} {at} w = ap length (w .buffer) ∙ length-sets l at a
 
--- The room that is left behind a write of at most w bytes.
-pub room-after :
-    (w r : ℕ) {l x a : List ℕ} {at end : ℕ} → Written l at a x end → end ≤ at + w → at + (w + r) ≤ length l
-    → end + r ≤ length x
-room-after w r v short h = omega (arith, length-kept v)
-
 -- A text that is written from the front, byte by byte.
 pub next-byte :
     (text : List ℕ) (k : ℕ) {l m : List ℕ} {at : ℕ} → k < length text → Written l at (take k text) m (at + k)
@@ -64,9 +58,6 @@ next-byte text k {l} {m} {at} h w =
     let one : Written m (at + k) (getD text k 0 ∷ []) (set m (at + k) (getD text k 0)) (at + (k + 1)) =
     record { buffer = refl; stands = omega arith } in
     as-text _ (and-then w one) (rw add-one (sym (take-suc text k 0 h)))
-
-pub no-byte : (text l : List ℕ) (at : ℕ) → Written l at (take 0 text) l (at + 0)
-no-byte text l at = record { buffer = refl; stands = omega arith }
 
 pub all-bytes :
     (text : List ℕ) (k : ℕ) {l m : List ℕ} {at : ℕ} → k ≡ length text → Written l at (take k text) m (at + k)

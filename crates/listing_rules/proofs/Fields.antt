@@ -15,7 +15,7 @@ use Rattle.rules.specs.declared.Device.{Device}
 use Rattle.rules.specs.declared.Yard.{Yard}
 use Rattle.rules.specs.declared.Down.{Down}
 use Rattle.rules.specs.Yard.{freshDevice, device}
-use Rattle.listing_rules.specs.Text.{supText, placeByte, placeText, downText, spaced, lineOf, lineText, headerText}
+use Rattle.listing_rules.specs.Text.{supText, placeSign, placeText, downText, spaced, lineOf, lineText, headerText}
 
 pub spaced-append : (a b : List (List ℕ)) → spaced (a ++ b) ≡ spaced a ++ spaced b
 unfolding spaced
@@ -58,7 +58,7 @@ module _ (f : ℕ → List ℕ) where
 
 -- The field of the next device.
 pub next-place :
-    (ds : List Device) (k b : ℕ) → b ≡ placeByte (getD ds k freshDevice .place)
+    (ds : List Device) (k b : ℕ) → b ≡ placeSign (getD ds k freshDevice .place)
     → b ∷ [] ≡ placeText (getD ds (k + 1 - 1) freshDevice .place)
 next-place ds k b e = let same : k + 1 - 1 ≡ k = omega arith in rw (same, e)
 

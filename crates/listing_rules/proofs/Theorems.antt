@@ -27,9 +27,9 @@ use Rattle.rules.specs.Numbers.{baseIndex, downIndex}
 use Rattle.rules.specs.Run.{after}
 use Rattle.rules.proofs.Runs.Engaged.{byte-at}
 use Rattle.rules.proofs.Runs.Splits.{record-later, after-splits}
-use Rattle.listing_rules.specs.Text.{supText, placeByte, mark, downText, spaced, lineText}
+use Rattle.listing_rules.specs.Text.{supText, placeSign, mark, downText, spaced, lineText}
 use Rattle.listing_rules.specs.Listing.{tickLine, linesText}
-use Rattle.listing_rules.specs.Theorems.{LineFits, HeaderFits, placeAt, EngagedShown, ListingSplits, NoLetterNoMark}
+use Rattle.listing_rules.specs.Theorems.{LineFits, HeaderFits, columnOf, EngagedShown, ListingSplits, NoLetterNoMark}
 use Rattle.listing_rules.proofs.Fields.{next-field, fields-length, line-in-order, header-in-order}
 
 -- Fields of one byte, each with a space before it.
@@ -79,7 +79,7 @@ line-fits t n y l lost small few based sent =
     let number = digits-few 19 t (omega arith) in
     let sup = sup-fits (y .base) based in
     let letter = down-fits l lost sent in
-    let places = bytes-length (λ i. placeByte (device y i .place)) n in
+    let places = bytes-length (λ i. placeSign (device y i .place)) n in
     rw (line-in-order t n y l lost)
     (simp length-append (omega arith))
 
@@ -92,11 +92,11 @@ header-fits n few =
 -- The byte of device i.
 shown :
     (t n : ℕ) (y : Yard) (l : Down) (lost : Bool) (i : ℕ) → 1 ≤ i → i ≤ n
-    → getD (lineText t n y l lost) (placeAt t y i) 0 ≡ placeByte (device y i .place)
+    → getD (lineText t n y l lost) (columnOf t y i) 0 ≡ placeSign (device y i .place)
 shown t n y l lost i low high =
-    let b : ℕ → ℕ = λ i. placeByte (device y i .place) in
+    let b : ℕ → ℕ = λ i. placeSign (device y i .place) in
     let rest : List ℕ = 32 ∷ downText l lost ++ (10 ∷ []) in
-    let at : placeAt t y i ≡ length (decimal t) + suc (length (supText (y .base)) + (2 * i - 1)) = omega arith in
+    let at : columnOf t y i ≡ length (decimal t) + suc (length (supText (y .base)) + (2 * i - 1)) = omega arith in
     rw (line-in-order t n y l lost, at)
     (getD-append-add (decimal t) _ (suc (length (supText (y .base)) + (2 * i - 1))) 0
     ∙ getD-append-add (supText (y .base)) _ (2 * i - 1) 0
@@ -104,7 +104,7 @@ shown t n y l lost i low high =
     ∙ field-at b n i low high)
 
 -- 'R' and 'X' are the places in which a device is engaged.
-engaged-byte : (pl : Place) → ((placeByte pl ≡ 82) ⊎ (placeByte pl ≡ 88)) ↔ (engaged pl ≡ true)
+engaged-byte : (pl : Place) → ((placeSign pl ≡ 82) ⊎ (placeSign pl ≡ 88)) ↔ (engaged pl ≡ true)
 unfolding engaged
 engaged-byte place.FallBack = (λ h. absurd (⊎-elim (λ e. omega arith) (λ e. omega arith) h), λ e. absurd (false≢true e))
 engaged-byte place.Requesting = (λ h. absurd (⊎-elim (λ e. omega arith) (λ e. omega arith) h), λ e. absurd (false≢true e))

@@ -25,22 +25,22 @@ supText (base.Cancel i) = 67 ∷ decimal i
 supText (base.Abort i) = 65 ∷ decimal i
 
 -- A device: F, Q, E, R, X for Exiting 1, Y for Exiting 2.
-abbrev pub placeByte : Place → ℕ
+abbrev pub placeSign : Place → ℕ
 -- 'F'
-placeByte place.FallBack = 70
+placeSign place.FallBack = 70
 -- 'Q'
-placeByte place.Requesting = 81
+placeSign place.Requesting = 81
 -- 'E'
-placeByte place.Entering = 69
+placeSign place.Entering = 69
 -- 'R'
-placeByte place.Running = 82
+placeSign place.Running = 82
 -- 'X'
-placeByte place.Exiting1 = 88
+placeSign place.Exiting1 = 88
 -- 'Y'
-placeByte place.Exiting2 = 89
+placeSign place.Exiting2 = 89
 
 abbrev pub placeText : Place → List ℕ
-placeText pl = placeByte pl ∷ []
+placeText pl = placeSign pl ∷ []
 
 -- '!' if lost.
 abbrev pub mark : Bool → List ℕ

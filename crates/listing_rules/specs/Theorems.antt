@@ -44,15 +44,15 @@ TickFits =
     → (k : ℕ) → first + k + 1 < 2 ^ 64 → length (tickLine p y roll first k) ≤ lineRoom
 
 -- Where device i stands in the line of tick number t: behind number and supervisor, with a space before each field.
-abbrev pub placeAt : ℕ → Yard → ℕ → ℕ
-placeAt t y i = length (decimal t) + length (supText (y .base)) + 2 * i
+abbrev pub columnOf : ℕ → Yard → ℕ → ℕ
+columnOf t y i = length (decimal t) + length (supText (y .base)) + 2 * i
 
 -- Device i shows 'R' or 'X' in a tick's line exactly when bit i-1 of that tick's byte of the run is set (`engaged-shown`).
 abbrev pub EngagedShown : Type 0
 EngagedShown =
     (p : Plan) (y : Yard) (roll : List ℕ) (first k i : ℕ) → 1 ≤ i → i ≤ p .N
-    → ((getD (tickLine p y roll first k) (placeAt (first + k + 1) (after p y roll (suc k)) i) 0 ≡ 82)
-    ⊎ (getD (tickLine p y roll first k) (placeAt (first + k + 1) (after p y roll (suc k)) i) 0 ≡ 88))
+    → ((getD (tickLine p y roll first k) (columnOf (first + k + 1) (after p y roll (suc k)) i) 0 ≡ 82)
+    ⊎ (getD (tickLine p y roll first k) (columnOf (first + k + 1) (after p y roll (suc k)) i) 0 ≡ 88))
     ↔ (bit (engagedByte p (after p y roll (suc k))) (i - 1) ≡ true)
 
 -- A listing that goes on, from the yard after a ticks with the rest of the roll and numbers from first + a, is one listing

@@ -1,5 +1,5 @@
 -- Places, letters, bases and down letters by number, 0 for the first of each in document 01: the vocabulary that comparisons,
--- bytes and text share. What has no such number stands for the first.
+-- bytes and text share. A number that none of them has is read as the first.
 use Prim.Native.Nat.{ℕ}
 use mathlib.Core.Bool.{cond}
 use lib.Dec.{eqb}
