@@ -1,8 +1,8 @@
 use mathlib.Core.Path.{sym, _∙_}
 use Rattle.exports_rules.specs.Asked.{checkFor}
 use borrow.Author.Needs.{needs}
-use Rattle.exports.proofs.asked.check_for.Statement.{statement}
-use Rattle.exports.proofs.asked.check_for.Tie as tie
+use Rattle.asked.proofs.check_for.Statement.{statement}
+use Rattle.asked.proofs.check_for.Tie as tie
 
 returns : tie.Need-returns
 unfolding checkFor

@@ -1,4 +1,5 @@
 // The answers of document 01's calls to plans and yards that are lent as bytes. A wrong length is refused before all else.
+// `exports` hands them out as numbers and bytes. No function here has a `requires`.
 use answers::size_verdict;
 use layout::yard::YARD_SIZE;
 use listing_rules::Listed;
@@ -18,7 +19,7 @@ ghost use Rattle.planfile_rules.specs.File.{wholePlan};
 ghost use Rattle.planfile_rules.specs.Writing.{ReadAs};
 ghost use Rattle.exports_rules.specs.Asked.{KeptBy, checkFor, freshFor, tickFor, runFor, engagedFor, readFor, writeFor, fileFor, listFor, textFor};
 
-pub(crate) fn check_for(plan: &[u8]) -> Verdict
+pub fn check_for(plan: &[u8]) -> Verdict
     ensures { λ r. ⌜ r ≡ checkFor (now (plan .entry)) ⌝ }
 {
     let size = size_verdict(plan.len() == PLAN_SIZE);
@@ -28,7 +29,7 @@ pub(crate) fn check_for(plan: &[u8]) -> Verdict
     plan::check(planfile::whole_plan(plan))
 }
 
-pub(crate) fn fresh_for(plan: &[u8], room: usize) -> FreshAnswer
+pub fn fresh_for(plan: &[u8], room: usize) -> FreshAnswer
     ensures { λ r. ⌜ r ≡ freshFor (now (plan .entry)) room ⌝ }
 {
     let a = yard::fresh(planfile::whole_plan(plan));
@@ -43,7 +44,7 @@ pub(crate) fn fresh_for(plan: &[u8], room: usize) -> FreshAnswer
     a
 }
 
-pub(crate) fn tick_for(plan: &[u8], bytes: &[u8], r: Record) -> TickAnswer
+pub fn tick_for(plan: &[u8], bytes: &[u8], r: Record) -> TickAnswer
     ensures { λ a. ⌜ a ≡ tickFor (now (plan .entry)) (now (bytes .entry)) r ⌝ }
 {
     let p = planfile::whole_plan(plan);
@@ -59,7 +60,7 @@ pub(crate) fn tick_for(plan: &[u8], bytes: &[u8], r: Record) -> TickAnswer
     yard::tick(p, yard, r)
 }
 
-pub(crate) fn run_for(
+pub fn run_for(
     plan: &[u8],
     bytes: &[u8],
     roll: &[u8],
@@ -83,7 +84,7 @@ pub(crate) fn run_for(
     yard::run(p, yard, roll, budget, engaged)
 }
 
-pub(crate) fn read_for(file: &[u8], room: usize) -> ReadAnswer
+pub fn read_for(file: &[u8], room: usize) -> ReadAnswer
     ensures { λ r. ⌜ r ≡ readFor (now (file .entry)) room ⌝ }
 {
     let a = planfile::read(file);
@@ -98,7 +99,7 @@ pub(crate) fn read_for(file: &[u8], room: usize) -> ReadAnswer
     a
 }
 
-pub(crate) fn write_for(plan: &[u8], file: &mut [u8]) -> WriteAnswer
+pub fn write_for(plan: &[u8], file: &mut [u8]) -> WriteAnswer
     ensures { λ a. ⌜ a ≡ writeFor (now (plan .entry)) (length (now (file .entry))) ⌝ }
     ensures { λ a. ⌜ now (file .exit) ≡ fileFor (now (plan .entry)) (now (file .entry)) ⌝ }
     ensures { λ a. ⌜ (a .verdict ≡ Accepted → ReadAs (take (a .length) (now (file .exit))) (wholePlan (now (plan .entry)))) ⌝ }
@@ -114,7 +115,7 @@ pub(crate) fn write_for(plan: &[u8], file: &mut [u8]) -> WriteAnswer
     planfile::write(p, file)
 }
 
-pub(crate) fn list_for(plan: &[u8], bytes: &[u8], roll: &[u8], first: u32, out: &mut [u8]) -> Listed
+pub fn list_for(plan: &[u8], bytes: &[u8], roll: &[u8], first: u32, out: &mut [u8]) -> Listed
     ensures { λ a. ⌜ a ≡ listFor (now (plan .entry)) (now (bytes .entry)) (now (roll .entry)) first (length (now (out .entry))) ⌝ }
     ensures { λ a. ⌜ now (out .exit) ≡ textFor (now (plan .entry)) (now (bytes .entry)) (now (roll .entry)) first (now (out .entry)) ⌝ }
 {

@@ -2,8 +2,8 @@ use mathlib.Core.Path.{refl, sym, _∙_}
 use Rattle.rules.proofs.Answers.{not-both}
 use Rattle.exports_rules.specs.Asked.{writeFor, fileFor}
 use borrow.Author.Needs.{needs}
-use Rattle.exports.proofs.asked.write_for.Statement.{statement}
-use Rattle.exports.proofs.asked.write_for.Tie as tie
+use Rattle.asked.proofs.write_for.Statement.{statement}
+use Rattle.asked.proofs.write_for.Tie as tie
 
 returns : tie.Need-returns
 unfolding writeFor fileFor

@@ -3,8 +3,8 @@ use mathlib.Core.Path.{refl}
 use Rattle.exports_rules.proofs.Sizes.{nothing-done}
 use Rattle.exports_rules.specs.Asked.{runFor, engagedFor}
 use borrow.Author.Needs.{needs}
-use Rattle.exports.proofs.asked.run_for.Statement.{statement}
-use Rattle.exports.proofs.asked.run_for.Tie as tie
+use Rattle.asked.proofs.run_for.Statement.{statement}
+use Rattle.asked.proofs.run_for.Tie as tie
 
 returns : tie.Need-returns
 unfolding runFor engagedFor

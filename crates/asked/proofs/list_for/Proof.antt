@@ -2,8 +2,8 @@ use mathlib.Core.Path.{sym, _∙_}
 use mathlib.Core.Path.{refl}
 use Rattle.exports_rules.specs.Asked.{listFor, textFor}
 use borrow.Author.Needs.{needs}
-use Rattle.exports.proofs.asked.list_for.Statement.{statement}
-use Rattle.exports.proofs.asked.list_for.Tie as tie
+use Rattle.asked.proofs.list_for.Statement.{statement}
+use Rattle.asked.proofs.list_for.Tie as tie
 
 returns : tie.Need-returns
 unfolding listFor textFor

@@ -2,8 +2,8 @@ use mathlib.Core.Path.{sym, _∙_}
 use Rattle.rules.specs.Yard.{freshAnswer}
 use Rattle.exports_rules.specs.Asked.{freshFor}
 use borrow.Author.Needs.{needs}
-use Rattle.exports.proofs.asked.fresh_for.Statement.{statement}
-use Rattle.exports.proofs.asked.fresh_for.Tie as tie
+use Rattle.asked.proofs.fresh_for.Statement.{statement}
+use Rattle.asked.proofs.fresh_for.Tie as tie
 
 returns : tie.Need-returns
 unfolding freshFor freshAnswer
