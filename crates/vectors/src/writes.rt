@@ -1,8 +1,8 @@
 // A plan that is written as a file: what the writer says of it, and every byte of the buffer.
 use crate::input::is_said;
 use crate::input::number_or_zero;
+use bodies::PLAN_SIZE;
 use libc::STDIN_FILENO;
-use planfile::PLAN_SIZE;
 use rules::Plan;
 use rules::Verdict;
 
@@ -67,7 +67,7 @@ pub(crate) fn next_write(file: &mut [u8], other: &mut [u8]) -> u8 {
     if io::read_full(STDIN_FILENO, &mut plan) != PLAN_SIZE {
         return 0;
     }
-    let p = planfile::whole_plan(&plan);
+    let p = bodies::whole_plan(&plan);
     let room = number_or_zero();
     if file.len() < room {
         return 0;

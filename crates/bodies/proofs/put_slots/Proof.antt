@@ -9,8 +9,8 @@ use Rattle.laws.proofs.Writes.{no-piece, next-member, length-kept, as-end, into
 use Rattle.rules.specs.Plan.{emptySlot}
 use Rattle.planfile_rules.specs.Writing.{slotBytes}
 use Rattle.planfile_rules.proofs.Bodies.{slot-wide}
-use Rattle.planfile.proofs.body.put_slots.Statement.{statement}
-use Rattle.planfile.proofs.body.put_slots.Tie as tie
+use Rattle.bodies.proofs.put_slots.Statement.{statement}
+use Rattle.bodies.proofs.put_slots.Tie as tie
 
 abbrev Inv-loop : tie.InvT-loop
 Inv-loop n out₀ slots j₀ out j =

@@ -4,8 +4,8 @@ use mathlib.Core.Path.{_≡_, _∙_}
 use borrow.Author.Needs.{needs}
 use Rattle.planfile_rules.specs.File.{slotsIn}
 use Rattle.planfile_rules.proofs.Slots.{none-read, slot-part, next-read}
-use Rattle.planfile.proofs.body.slots_in.Statement.{statement}
-use Rattle.planfile.proofs.body.slots_in.Tie as tie
+use Rattle.bodies.proofs.slots_in.Statement.{statement}
+use Rattle.bodies.proofs.slots_in.Tie as tie
 
 abbrev Inv-loop : tie.InvT-loop
 Inv-loop body n slots₀ k₀ slots k = (k ≤ n) × (slots ≡ slotsIn k body)

@@ -1,7 +1,7 @@
 use Rattle.planfile_rules.specs.File.{planIn}
 use borrow.Author.Needs.{needs}
-use Rattle.planfile.proofs.body.plan_in.Statement.{statement}
-use Rattle.planfile.proofs.body.plan_in.Tie as tie
+use Rattle.bodies.proofs.held_plan.Statement.{statement}
+use Rattle.bodies.proofs.held_plan.Tie as tie
 
 returns : tie.Need-returns
 unfolding planIn
@@ -14,8 +14,8 @@ returns c =
       c .before .before .before .before .two-at .ensures,
     )
 
-pub plan-in-spec : {M : Type 1} → statement M
-plan-in-spec =
+pub held-plan-spec : {M : Type 1} → statement M
+held-plan-spec =
     tie.close
     (tie.spec
     (λ c κs. search needs) (λ c κs. search needs) (λ c κs. search needs) (λ c κs. search needs)

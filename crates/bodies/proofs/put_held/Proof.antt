@@ -1,8 +1,8 @@
 use Rattle.laws.proofs.Writes.{and-then}
 use Rattle.planfile_rules.specs.Writing.{bodyBytes}
 use borrow.Author.Needs.{needs}
-use Rattle.planfile.proofs.body.put_body.Statement.{statement}
-use Rattle.planfile.proofs.body.put_body.Tie as tie
+use Rattle.bodies.proofs.put_held.Statement.{statement}
+use Rattle.bodies.proofs.put_held.Tie as tie
 
 returns : tie.Need-returns
 unfolding bodyBytes
@@ -15,8 +15,8 @@ returns c =
     let slots = c .before .before .put-slots .ensures in
     (and-then four (slots .0), slots .1)
 
-pub put-body-spec : {M : Type 1} → statement M
-put-body-spec =
+pub put-held-spec : {M : Type 1} → statement M
+put-held-spec =
     tie.close
     (tie.spec
     (λ c κs. search needs) (λ c κs. search needs) (λ c κs. search needs) (λ c κs. search needs)
