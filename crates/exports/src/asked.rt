@@ -47,7 +47,7 @@ pub(crate) fn tick_for(plan: &[u8], bytes: &[u8], r: Record) -> TickAnswer
     ensures { λ a. ⌜ a ≡ tickFor (now (plan .entry)) (now (bytes .entry)) r ⌝ }
 {
     let p = bodies::whole_plan(plan);
-    let yard = layout::yard::read(bytes);
+    let yard = yard_reading::read(bytes);
     let size = size_verdict((plan.len() == PLAN_SIZE) & (bytes.len() == YARD_SIZE));
     let Verdict::Accepted = size else {
         return TickAnswer {
@@ -71,7 +71,7 @@ pub(crate) fn run_for(
     ensures { λ a. ⌜ KeptBy (now (plan .entry)) (now (bytes .entry)) (now (engaged .exit)) (a .ticks) ⌝ }
 {
     let p = bodies::whole_plan(plan);
-    let yard = layout::yard::read(bytes);
+    let yard = yard_reading::read(bytes);
     let size = size_verdict((plan.len() == PLAN_SIZE) & (bytes.len() == YARD_SIZE));
     let Verdict::Accepted = size else {
         return RunAnswer {
@@ -119,7 +119,7 @@ pub(crate) fn list_for(plan: &[u8], bytes: &[u8], roll: &[u8], first: u32, out: 
     ensures { λ a. ⌜ now (out .exit) ≡ textFor (now (plan .entry)) (now (bytes .entry)) (now (roll .entry)) first (now (out .entry)) ⌝ }
 {
     let p = bodies::whole_plan(plan);
-    let yard = layout::yard::read(bytes);
+    let yard = yard_reading::read(bytes);
     let size = size_verdict((plan.len() == PLAN_SIZE) & (bytes.len() == YARD_SIZE));
     let Verdict::Accepted = size else {
         return Listed {

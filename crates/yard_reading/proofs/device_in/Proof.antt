@@ -1,7 +1,7 @@
 use borrow.Author.Needs.{needs}
 use Rattle.layout_rules.specs.Reading.{deviceIn}
-use Rattle.layout.proofs.yard.device_in.Statement.{statement}
-use Rattle.layout.proofs.yard.device_in.Tie as tie
+use Rattle.yard_reading.proofs.device_in.Statement.{statement}
+use Rattle.yard_reading.proofs.device_in.Tie as tie
 
 returns : tie.Need-returns
 unfolding deviceIn

@@ -5,8 +5,8 @@ use mathlib.Core.Path.{_≡_, refl}
 use borrow.Author.Needs.{needs}
 use Rattle.laws.specs.Tests.{each}
 use Rattle.layout_rules.specs.Reading.{deviceStands}
-use Rattle.layout.proofs.yard.devices_stand.Statement.{statement}
-use Rattle.layout.proofs.yard.devices_stand.Tie as tie
+use Rattle.yard_reading.proofs.devices_stand.Statement.{statement}
+use Rattle.yard_reading.proofs.devices_stand.Tie as tie
 
 abbrev Inv-loop : tie.InvT-loop
 Inv-loop bytes all₀ k₀ all k = (k ≤ 8) × (all ≡ each (deviceStands bytes) k)

@@ -2,8 +2,8 @@ use mathlib.Core.Path.{sym, _∙_}
 use borrow.Author.Tests.{not-true, not-false}
 use borrow.Author.Needs.{needs}
 use Rattle.layout_rules.specs.Reading.{yardIn, yardOf}
-use Rattle.layout.proofs.yard.read.Statement.{statement}
-use Rattle.layout.proofs.yard.read.Tie as tie
+use Rattle.yard_reading.proofs.read.Statement.{statement}
+use Rattle.yard_reading.proofs.read.Tie as tie
 
 returns : tie.Need-returns
 unfolding yardOf

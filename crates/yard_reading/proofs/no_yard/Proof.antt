@@ -1,7 +1,7 @@
 use borrow.Author.Needs.{needs}
 use Rattle.layout_rules.specs.Reading.{noYard}
-use Rattle.layout.proofs.yard.no_yard.Statement.{statement}
-use Rattle.layout.proofs.yard.no_yard.Tie as tie
+use Rattle.yard_reading.proofs.no_yard.Statement.{statement}
+use Rattle.yard_reading.proofs.no_yard.Tie as tie
 
 pub no-yard-spec : {M : Type 1} → statement M
 unfolding noYard

@@ -5,8 +5,8 @@ use borrow.Author.Needs.{needs}
 use Rattle.laws.proofs.Tests.{all-is}
 use Rattle.layout_rules.specs.Bytes.{yardSize}
 use Rattle.layout_rules.specs.Reading.{isYard}
-use Rattle.layout.proofs.yard.is_yard.Statement.{statement}
-use Rattle.layout.proofs.yard.is_yard.Tie as tie
+use Rattle.yard_reading.proofs.is_yard.Statement.{statement}
+use Rattle.yard_reading.proofs.is_yard.Tie as tie
 
 returns : tie.Need-returns
 unfolding isYard

@@ -1,6 +1,6 @@
 use borrow.Author.Needs.{needs}
-use Rattle.layout.proofs.yard.device_stands.Statement.{statement}
-use Rattle.layout.proofs.yard.device_stands.Tie as tie
+use Rattle.yard_reading.proofs.device_stands.Statement.{statement}
+use Rattle.yard_reading.proofs.device_stands.Tie as tie
 
 pub device-stands-spec : {M : Type 1} → statement M
 device-stands-spec =

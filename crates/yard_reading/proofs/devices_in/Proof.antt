@@ -6,8 +6,8 @@ use Rattle.laws.specs.Lists.{tabulate, swept}
 use Rattle.laws.proofs.Lists.{swept-none, swept-next, swept-all}
 use Rattle.rules.specs.Yard.{freshDevice}
 use Rattle.layout_rules.specs.Reading.{deviceIn}
-use Rattle.layout.proofs.yard.devices_in.Statement.{statement}
-use Rattle.layout.proofs.yard.devices_in.Tie as tie
+use Rattle.yard_reading.proofs.devices_in.Statement.{statement}
+use Rattle.yard_reading.proofs.devices_in.Tie as tie
 
 abbrev Inv-loop : tie.InvT-loop
 Inv-loop bytes devices₀ k₀ devices k = (k ≤ 8) × (devices ≡ swept (deviceIn bytes) (λ i. freshDevice) k 8)
