@@ -1,11 +1,12 @@
-// The input, number by number: little-endian, and 0 where the input has ended.
+// The input of the programs that try cases, number by number: little-endian, and 0 where the input has ended. What is read, no
+// contract can say.
 use libc::STDIN_FILENO;
 use numbers::read::four_at;
 use numbers::widths::long;
 use numbers::widths::long_byte;
 use rules::Verdict;
 
-pub(crate) struct Number {
+pub struct Number {
     pub there: bool,
     pub value: usize,
 }
@@ -20,19 +21,19 @@ fn next_number() -> Number {
     }
 }
 
-pub(crate) fn number_or_zero() -> usize {
+pub fn number_or_zero() -> usize {
     let n = next_number();
     n.value
 }
 
-pub(crate) fn byte() -> u8 {
+pub fn byte() -> u8 {
     let mut b = [0u8; 1];
     io::read_full(STDIN_FILENO, &mut b);
     b[0]
 }
 
 // The next bytes of the input, as many as a number before them says; more than the buffer holds count as none.
-pub(crate) fn bytes(buffer: &mut [u8]) -> Number {
+pub fn bytes(buffer: &mut [u8]) -> Number {
     let n = next_number();
     let len = n.value;
     if !n.there {
@@ -66,7 +67,7 @@ fn index_of(v: Verdict) -> usize {
 }
 
 // Whether a verdict has the number (1 byte) and the index (4) that come next.
-pub(crate) fn is_said(v: Verdict) -> bool {
+pub fn is_said(v: Verdict) -> bool {
     let number = long_byte(byte());
     let index = number_or_zero();
     (number_of(v) == number) & (index_of(v) == index)

@@ -2,8 +2,8 @@ use Prim.Native.Nat.{_-_}
 use mathlib.Core.Path.{_≡_, refl, _∙_}
 use lib.ListN.{length, length-set}
 use borrow.Author.Needs.{needs}
-use Rattle.vectors.proofs.writes.fill.Statement.{statement}
-use Rattle.vectors.proofs.writes.fill.Tie as tie
+use Rattle.write_cases.proofs.fill.Statement.{statement}
+use Rattle.write_cases.proofs.fill.Tie as tie
 
 abbrev Inv-loop : tie.InvT-loop
 Inv-loop buffer₀ shade₀ k₀ buffer shade k = length buffer ≡ length buffer₀

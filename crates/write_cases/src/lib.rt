@@ -1,7 +1,8 @@
-// A plan that is written as a file: what the writer says of it, and every byte of the buffer.
-use crate::input::is_said;
-use crate::input::number_or_zero;
+// Cases of plans that are written as files: what the writer says of each, and every byte of the buffer. `vectors` runs them. What
+// is read, no contract can say.
 use bodies::PLAN_SIZE;
+use case_input::is_said;
+use case_input::number_or_zero;
 use libc::STDIN_FILENO;
 use rules::Plan;
 use rules::Verdict;
@@ -19,7 +20,7 @@ fn fill(buffer: &mut [u8]) {
 
 // Makes of a buffer what one should be after a write: the next bytes of the input in its front, the pattern behind them.
 fn expect_written(buffer: &mut [u8], len: usize) -> bool {
-    fill(&mut buffer[0..]);
+    fill(buffer);
     if buffer.len() < len {
         return false;
     }
@@ -41,28 +42,28 @@ fn comes_back(file: &[u8], len: usize, again: &mut [u8]) -> bool {
     let Verdict::Accepted = v else {
         return false;
     };
-    fill(&mut again[0..]);
-    planfile::write(p, &mut again[0..]);
+    fill(again);
+    planfile::write(p, again);
     check::same(file, &again[0..])
 }
 
 // Whether a write comes out as it should: number, index, length and every byte lent, past the end and after a refusal too.
 fn written_right(p: Plan, file: &mut [u8], other: &mut [u8]) -> bool {
-    fill(&mut file[0..]);
-    let answer = planfile::write(p, &mut file[0..]);
+    fill(file);
+    let answer = planfile::write(p, file);
     let v = answer.verdict;
     let said = is_said(v);
     let len = number_or_zero();
-    if !expect_written(&mut other[0..], len) {
+    if !expect_written(other, len) {
         return false;
     }
     let same = check::same(&file[0..], &other[0..]);
-    let back = comes_back(&file[0..], len, &mut other[0..]);
+    let back = comes_back(&file[0..], len, other);
     said & (answer.length == len) & same & back
 }
 
 // The next case: 0 where there is none, 1 where it comes out right, 2 where it does not.
-pub(crate) fn next_write(file: &mut [u8], other: &mut [u8]) -> u8 {
+pub fn next_write(file: &mut [u8], other: &mut [u8]) -> u8 {
     let mut plan = [0u8; PLAN_SIZE];
     if io::read_full(STDIN_FILENO, &mut plan) != PLAN_SIZE {
         return 0;
