@@ -1,9 +1,9 @@
 // The answers of document 01's calls to plans and yards that are lent as bytes. A wrong length is refused before all else.
 // `exports` hands them out as numbers and bytes. No function here has a `requires`.
 use answers::size_verdict;
+use bodies::PLAN_SIZE;
 use layout::yard::YARD_SIZE;
 use listing_rules::Listed;
-use planfile::PLAN_SIZE;
 use planfile_rules::ReadAnswer;
 use planfile_rules::WriteAnswer;
 use rules::Down;
@@ -26,13 +26,13 @@ pub fn check_for(plan: &[u8]) -> Verdict
     let Verdict::Accepted = size else {
         return size;
     };
-    plan::check(planfile::whole_plan(plan))
+    plan::check(bodies::whole_plan(plan))
 }
 
 pub fn fresh_for(plan: &[u8], room: usize) -> FreshAnswer
     ensures { λ r. ⌜ r ≡ freshFor (now (plan .entry)) room ⌝ }
 {
-    let a = yard::fresh(planfile::whole_plan(plan));
+    let a = yard::fresh(bodies::whole_plan(plan));
     let yard = a.yard;
     let size = size_verdict((plan.len() == PLAN_SIZE) & (room == YARD_SIZE));
     let Verdict::Accepted = size else {
@@ -47,8 +47,8 @@ pub fn fresh_for(plan: &[u8], room: usize) -> FreshAnswer
 pub fn tick_for(plan: &[u8], bytes: &[u8], r: Record) -> TickAnswer
     ensures { λ a. ⌜ a ≡ tickFor (now (plan .entry)) (now (bytes .entry)) r ⌝ }
 {
-    let p = planfile::whole_plan(plan);
-    let yard = layout::yard::read(bytes);
+    let p = bodies::whole_plan(plan);
+    let yard = yard_reading::read(bytes);
     let size = size_verdict((plan.len() == PLAN_SIZE) & (bytes.len() == YARD_SIZE));
     let Verdict::Accepted = size else {
         return TickAnswer {
@@ -71,8 +71,8 @@ pub fn run_for(
     ensures { λ a. ⌜ now (engaged .exit) ≡ engagedFor (now (plan .entry)) (now (bytes .entry)) (now (roll .entry)) budget (now (engaged .entry)) ⌝ }
     ensures { λ a. ⌜ KeptBy (now (plan .entry)) (now (bytes .entry)) (now (engaged .exit)) (a .ticks) ⌝ }
 {
-    let p = planfile::whole_plan(plan);
-    let yard = layout::yard::read(bytes);
+    let p = bodies::whole_plan(plan);
+    let yard = yard_reading::read(bytes);
     let size = size_verdict((plan.len() == PLAN_SIZE) & (bytes.len() == YARD_SIZE));
     let Verdict::Accepted = size else {
         return RunAnswer {
@@ -104,7 +104,7 @@ pub fn write_for(plan: &[u8], file: &mut [u8]) -> WriteAnswer
     ensures { λ a. ⌜ now (file .exit) ≡ fileFor (now (plan .entry)) (now (file .entry)) ⌝ }
     ensures { λ a. ⌜ (a .verdict ≡ Accepted → ReadAs (take (a .length) (now (file .exit))) (wholePlan (now (plan .entry)))) ⌝ }
 {
-    let p = planfile::whole_plan(plan);
+    let p = bodies::whole_plan(plan);
     let size = size_verdict(plan.len() == PLAN_SIZE);
     let Verdict::Accepted = size else {
         return WriteAnswer {
@@ -119,8 +119,8 @@ pub fn list_for(plan: &[u8], bytes: &[u8], roll: &[u8], first: u32, out: &mut [u
     ensures { λ a. ⌜ a ≡ listFor (now (plan .entry)) (now (bytes .entry)) (now (roll .entry)) first (length (now (out .entry))) ⌝ }
     ensures { λ a. ⌜ now (out .exit) ≡ textFor (now (plan .entry)) (now (bytes .entry)) (now (roll .entry)) first (now (out .entry)) ⌝ }
 {
-    let p = planfile::whole_plan(plan);
-    let yard = layout::yard::read(bytes);
+    let p = bodies::whole_plan(plan);
+    let yard = yard_reading::read(bytes);
     let size = size_verdict((plan.len() == PLAN_SIZE) & (bytes.len() == YARD_SIZE));
     let Verdict::Accepted = size else {
         return Listed {

@@ -29,5 +29,5 @@ pub(crate) fn keep_plan(v: Verdict, p: Plan, bytes: &mut [u8])
     let Verdict::Accepted = v else {
         return;
     };
-    planfile::put_whole_plan(p, bytes);
+    bodies::put_whole_plan(p, bytes);
 }

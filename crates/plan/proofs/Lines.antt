@@ -1,4 +1,4 @@
--- The lines that this crate tries at an index are those of the table that are asked there.
+-- The lines that are tried at an index are those of the table that are asked there.
 use Prim.Native.Nat.{ℕ, suc, _+_, _-_, _*_, _≤_, _<_}
 use native.Mathlib.Omega.{arith}
 use mathlib.Core.Path.{_≡_, refl, _∙_, ap, ap₂}
@@ -14,7 +14,7 @@ use Rattle.rules.specs.Plan.{slot, stay, LS, isDevice, isPair, isAbove}
 use Rattle.rules.specs.Table as rules-table
 use Rattle.rules.specs.Table.{line1, line2, line3, line4, line5, line6, line7, line8, line9, table, broken}
 use Rattle.rules.proofs.Plans.Table.{is-device, is-pair, is-above, device-is, pair-is, above-is}
-use Rattle.plan.specs.Lines.{sizeHolds, yardTimes, deviceTimes, pairTimes, noSpacing, allZero, c2Holds, c3Holds, c4Holds, c5Holds, c6Holds, c7Holds, yardLine, pairLine, lastLine, unusedLine, slotLine}
+use Rattle.conditions.specs.Lines.{sizeHolds, yardTimes, deviceTimes, pairTimes, noSpacing, allZero, c2Holds, c3Holds, c4Holds, c5Holds, c6Holds, c7Holds, yardLine, pairLine, lastLine, unusedLine, slotLine}
 
 -- The number, from k, of the first test of a list that holds.
 unfoldable pub firstOf : ℕ → List Bool → ℕ

@@ -16,7 +16,8 @@ use Rattle.rules.specs.Plan.{slot, LS, emptySlot}
 use Rattle.rules.specs.Table.{table, broken, lineVerdict, planVerdict}
 use Rattle.rules.proofs.Answers.{none-refused, refused-at}
 use Rattle.rules.proofs.Plans.Table.{slot-at, accepted-line, refused-line}
-use Rattle.plan.specs.Lines.{sizeHolds, yardLine, slotLine, placeAfter}
+use Rattle.conditions.specs.Lines.{sizeHolds, yardLine, slotLine}
+use Rattle.plan.specs.Places.{placeAfter}
 use Rattle.plan.proofs.Least.{least, leastAt, Least, least-is, least-cong}
 use Rattle.plan.proofs.Lines.{firstOf, firstLine, yard-first, slot-first, not-first, wrong-size, few}
 

@@ -3,11 +3,12 @@
 //
 // The trailer, at the file's end, is read as numbers and judged as numbers. Only when it is taken is the body, a part of the
 // file from wherever the trailer says, handed on to be read.
-mod body;
-
+use bodies::plan_in;
+use bodies::put_body;
 use file_answers::answer;
 use file_answers::empty_plan;
 use file_answers::write_verdict;
+use numbers::read::two_at;
 use planfile_rules::ReadAnswer;
 use planfile_rules::Span;
 use planfile_rules::WriteAnswer;
@@ -16,14 +17,28 @@ use rules::Verdict;
 use trailer::devices_for;
 use trailer::judge;
 use trailer::put_trailer;
+use trailer::refusal;
 use trailer::trailer_for;
 use trailer::trailer_of;
 ghost use mathlib.Core.Path.{_≡_};
-ghost use mathlib.Core.List.{_++_};
-ghost use lib.ListN.{length, take, drop};
+ghost use Prim.Native.Nat.{_+_, _*_, _≤_};
+ghost use lib.ListN.{length, take};
 ghost use Rattle.rules.specs.declared.Verdict.the-variants as verdict;
-ghost use Rattle.planfile_rules.specs.File.{readAnswer, bodySpan, wholePlan};
-ghost use Rattle.planfile_rules.specs.Writing.{fileBytes, writeAnswer, writeBuffer, ReadAs, WithoutNotes, planWritten};
+ghost use Rattle.planfile_rules.specs.File.{planIn, bodyVerdict, answerOf, readAnswer, bodySpan};
+ghost use Rattle.planfile_rules.specs.Writing.{fileBytes, writeAnswer, writeBuffer, ReadAs, WithoutNotes};
+
+// The verdict on a body that has room for n devices, beside its plan.
+fn read_body(body: &[u8], n: u16) -> ReadAnswer
+    requires { ⌜ (n ≤ 8) × (8 + 12 * n ≤ length (now body)) ⌝ }
+    ensures { λ r. ⌜ r ≡ answerOf (bodyVerdict n (now (body .entry))) (planIn n (now (body .entry))) ⌝ }
+{
+    let named = two_at(body, 0);
+    if named != n {
+        return answer(refusal(19), empty_plan());
+    }
+    let plan = plan_in(body, n as usize);
+    answer(plan::check(plan), plan)
+}
 
 // The verdict on a file beside the plan that it holds. A refused file gives an all-zero plan. Writing what was read from a
 // file without notes gives its bytes back.
@@ -41,7 +56,7 @@ pub fn read(file: &[u8]) -> ReadAnswer
     let back = t.back as usize;
     let start = len - back;
     let end = start + size;
-    body::read_body(&file[start..end], devices_for(t.size))
+    read_body(&file[start..end], devices_for(t.size))
 }
 
 // Where a file's body lies, for whoever wants to show it; nothing at 0 where its trailer is not taken.
@@ -78,37 +93,10 @@ pub fn write(p: Plan, file: &mut [u8]) -> WriteAnswer
         };
     };
     let n = p.N as usize;
-    let size = 8 + 12 * n;
-    body::put_body(p, n, file);
+    let size = put_body(p, n, file);
     put_trailer(trailer_for(p.N as u8), file, size);
     WriteAnswer {
         verdict: v,
         length: size + 10,
     }
-}
-
-pub const PLAN_SIZE: usize = 104;
-
-// The plan in so many bytes: a body with all eight slots, those above N included, as callers in other languages lend it. It is
-// not checked. Of another length, an all-zero plan, which the check refuses.
-pub fn whole_plan(bytes: &[u8]) -> Plan
-    ensures { λ r. ⌜ r ≡ wholePlan (now (bytes .entry)) ⌝ }
-{
-    if bytes.len() != PLAN_SIZE {
-        return empty_plan();
-    }
-    body::plan_in(bytes, 8)
-}
-
-// Those bytes, at the front of a buffer; the answer is how many bytes were written, none in a shorter buffer. Later bytes
-// keep their value.
-pub fn put_whole_plan(p: Plan, out: &mut [u8]) -> usize
-    ensures { λ r. ⌜ r ≡ length (planWritten p (length (now (out .entry)))) ⌝ }
-    ensures { λ r. ⌜ now (out .exit) ≡ planWritten p (length (now (out .entry))) ++ drop r (now (out .entry)) ⌝ }
-{
-    if out.len() < PLAN_SIZE {
-        return 0;
-    }
-    body::put_body(p, 8, out);
-    PLAN_SIZE
 }

@@ -75,6 +75,14 @@ planOf file = planIn (devicesFor (trailerOf file .size)) (bodyOf file)
 unfoldable pub emptyPlan : Plan
 emptyPlan = record { N = 0; W = 0; B = 0; Q = 0; slots = tabulate (λ i. emptySlot) 8 }
 
+-- So many bytes have room for a body of n devices, of which there are at most eight.
+abbrev pub bodyFits : ℕ → ℕ → Bool
+bodyFits n room = leb n 8 && leb (8 + 12 * n) room
+
+-- The plan in a body of n devices, not checked here; where they have no room in it, one that is all zero.
+unfoldable pub planFor : ℕ → List ℕ → Plan
+planFor n body = cond (bodyFits n (length body)) (planIn n body) emptyPlan
+
 -- Refused in order, index 0. Of the trailer, in a file of so many bytes: 14 to 18.
 unfoldable pub trailerVerdict : ℕ → Trailer → Verdict
 trailerVerdict len t =

@@ -17,7 +17,7 @@ use Rattle.rules.specs.Plan.{emptySlot}
 use Rattle.rules.specs.Table.{planVerdict}
 use Rattle.planfile_rules.specs.declared.Trailer.{Trailer}
 use Rattle.planfile_rules.specs.declared.WriteAnswer.{WriteAnswer}
-use Rattle.planfile_rules.specs.File.{lastTen, theMark, bodyOf, readAnswer, planSize}
+use Rattle.planfile_rules.specs.File.{lastTen, theMark, bodyOf, readAnswer, bodyFits, planSize}
 
 -- Per device F, E, R, X, G, S, two bytes each.
 unfoldable pub slotBytes : Slot → List ℕ
@@ -31,6 +31,10 @@ slotsBytes slots n = joined (λ i. slotBytes (getD slots (i - 1) emptySlot)) n
 -- A body for n devices: N, W, B, Q, two bytes each, then per device.
 unfoldable pub bodyBytes : Plan → ℕ → List ℕ
 bodyBytes p n = twoBytes (p .N) ++ twoBytes (p .W) ++ twoBytes (p .B) ++ twoBytes (p .Q) ++ slotsBytes (p .slots) n
+
+-- What is written of it into a buffer of so many bytes: all, or nothing.
+unfoldable pub bodyWritten : Plan → ℕ → ℕ → List ℕ
+bodyWritten p n room = cond (bodyFits n room) (bodyBytes p n) []
 
 -- Trailer: body length (2), version (2), distance back from the file's end to the body (4), bytes 59 50 hex.
 unfoldable pub trailerBytes : Trailer → List ℕ

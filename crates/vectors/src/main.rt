@@ -6,24 +6,22 @@
 // piece is of the roll (1), where it starts (4) and how long it is (4).
 // Kind 1, a write: the plan (104), the length of the buffer lent (4), then the refusal's number (1) and index (4), and the length
 // (4) and bytes of what is written.
-mod input;
 mod reads;
-mod writes;
 
-use input::byte;
+use case_input::byte;
 use libc::STDOUT_FILENO;
 use reads::next_read;
-use writes::next_write;
+use write_cases::next_write;
 
 // The next case: 0 where there is none, 1 where it comes out right, 2 where it does not. At the input's end the kind reads as
 // 0, and no file follows.
 fn next_case(file: &mut [u8], roll: &mut [u8]) -> u8 {
     let kind = byte();
     if kind == 0 {
-        return next_read(&mut file[0..], &mut roll[0..]);
+        return next_read(file, roll);
     }
     if kind == 1 {
-        return next_write(&mut file[0..], &mut roll[0..]);
+        return next_write(file, roll);
     }
     0
 }

@@ -1,8 +1,8 @@
 // A file and a roll: what the reader and the run say of them, and the piece that the finder hands back.
-use crate::input::byte;
-use crate::input::bytes;
-use crate::input::is_said;
-use crate::input::number_or_zero;
+use case_input::byte;
+use case_input::bytes;
+use case_input::is_said;
+use case_input::number_or_zero;
 use rules::Verdict;
 
 // The verdict on a file, and where that is taken on a roll from a fresh yard, with nothing run.
@@ -48,11 +48,11 @@ fn right<'a>(file: &'a [u8], roll: &'a [u8]) -> bool {
 
 // The next case: 0 where there is none, 1 where it comes out right, 2 where it does not.
 pub(crate) fn next_read(file: &mut [u8], roll: &mut [u8]) -> u8 {
-    let a = bytes(&mut file[0..]);
+    let a = bytes(file);
     if !a.there {
         return 0;
     }
-    let b = bytes(&mut roll[0..]);
+    let b = bytes(roll);
     if !b.there {
         return 0;
     }
