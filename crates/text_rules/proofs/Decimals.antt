@@ -52,7 +52,7 @@ module _ (P : ℕ → Type 0) (one : (n : ℕ) → n < 10 → P n) (more : (n : 
       let some : 10 ≤ n = ltb-false _ _ e in
       more n some (below turns (n / 10) (omega arith)))
 
-  digit-by-digit : (n : ℕ) → P n
+  pub digit-by-digit : (n : ℕ) → P n
   digit-by-digit n = below (suc n) n (omega arith)
 
 read-last : (before d : ℕ) (ds : List ℕ) → readOn before (ds ++ (d ∷ [])) ≡ 10 * readOn before ds + (d - digit 0)
