@@ -1,7 +1,6 @@
 -- One device of a tick, until its letter has gone up, and the device that a down letter reaches, as the run's loop computes
 -- them on the way; what a caller is promised is `tickAnswer` and `runAnswer` of the rules.
 use Prim.Native.Nat.{ℕ, _+_}
-use mathlib.Core.Path.{_≡_}
 use mathlib.Core.Bool.{Bool, not, _&&_, _||_, cond}
 use lib.Dec.{leb, eqb}
 use Rattle.rules.specs.declared.Slot.{Slot}
@@ -36,9 +35,8 @@ abbrev pub paceBy : ℕ → ℕ → Device → Pace
 paceBy time command d = cond (stirring time command d) pace.Moves (pace.NothingDue (stopsAt time (d .clock)))
 
 -- d has moved: it is left without its letter, which is heard.
-pub record Rises (lost : Bool) (d : Device) (r : Risen) : Type 0 where
-  pub device : r .device ≡ writes letter.None d
-  pub heard : r .heard ≡ heardOf lost (d .letter)
+abbrev pub wentUp : Bool → Device → Risen
+wentUp lost d = record { device = writes letter.None d; heard = heardOf lost (d .letter) }
 
 -- The device that a down letter reaches, of n: the one that it is for, unless it is lost; 0 for none.
 abbrev pub reachedBy : ℕ → Bool → Down → ℕ

@@ -1,20 +1,25 @@
 // What one device does in a tick and what is heard of it, as far as it can be told for any device and any clock: no function
-// here has a `requires`. The run's loop in `yard` goes by these.
+// here has a `requires`. The run's loop in `yard` goes by these; step 1 of a device that moves is done there.
 use numbers::widths::broad;
 use rules::BaseMove;
 use rules::Device;
 use rules::Letter;
 use rules::Place;
+use rules::Slot;
+use vocabulary::base_index;
 use vocabulary::down_index;
 use vocabulary::letter_number;
 use vocabulary::place_number;
 ghost use mathlib.Core.Path.{_≡_};
 ghost use mathlib.Core.Bool.{cond};
-ghost use Prim.Native.Nat.{_≤_};
+ghost use Prim.Native.Nat.{_-_, _≤_};
 ghost use Rattle.laws.specs.Bits as bits;
 ghost use Rattle.rules.specs.Yard as rules;
+ghost use Rattle.rules.specs.Numbers.{baseIndex};
 ghost use Rattle.rules.specs.Tick.Step1.{stopsAt};
-ghost use Rattle.pace.specs.Pace.{stirring, paceBy, heardOf, reachedBy};
+ghost use Rattle.rules.specs.Tick.Step2.{moved};
+ghost use Rattle.rules.specs.Tick.Step4.{arrived};
+ghost use Rattle.pace.specs.Pace.{stirring, paceBy, heardOf, wentUp, reachedBy};
 
 // Bit k of a byte; from 8 on there is none.
 pub fn bit(b: u8, k: usize) -> bool
@@ -91,6 +96,25 @@ pub struct Risen {
     pub heard: Letter,
 }
 
+// The device at i, whose clock has moved: it moves, and its letter goes up, and is lost where bit i of `lost` says so.
+pub fn goes_up(
+    q: u16,
+    s: Slot,
+    initializer: bool,
+    command: u8,
+    lost: u8,
+    i: usize,
+    d: Device,
+) -> Risen
+    ensures { λ r. ⌜ r ≡ wentUp (bits.bit lost i) (moved q s initializer command d) ⌝ }
+{
+    let m = device::moved(q, s, initializer, command, d);
+    let letter = m.letter;
+    let device = device::writes(Letter::None, m);
+    let heard = heard(bit(lost, i), letter);
+    Risen { device, heard }
+}
+
 // What is heard of the device that is listened to: of this one, where it is the one, else what was heard before.
 pub fn listen(here: bool, up: Risen, before: Letter) -> Letter
     ensures { λ r. ⌜ r ≡ cond here (up .heard) before ⌝ }
@@ -116,4 +140,30 @@ pub fn reached(n: u8, flags: u8, s: BaseMove) -> u8
         return i;
     }
     0
+}
+
+// Where device i stands in an array; there is no device 0, and it stands for device 1.
+pub fn index_of(i: u8) -> usize
+    ensures { λ r. ⌜ r ≡ i - 1 ⌝ }
+{
+    if i == 0 {
+        return 0;
+    }
+    (i - 1) as usize
+}
+
+// Where the device stands that the supervisor's place is about.
+pub fn own_index(s: BaseMove) -> usize
+    ensures { λ r. ⌜ r ≡ baseIndex (s .base) - 1 ⌝ }
+{
+    let base = s.base;
+    index_of(base_index(base))
+}
+
+// Device i, which the down letter has reached.
+pub fn arrive(s: Slot, willing: u8, sent: BaseMove, i: u8, d: Device) -> Device
+    ensures { λ r. ⌜ r ≡ arrived s (bits.bit willing (i - 1)) (sent .down) i d ⌝ }
+{
+    let down = sent.down;
+    device::arrived(s, bit(willing, index_of(i)), down, i, d)
 }

@@ -22,7 +22,7 @@ use Rattle.rules.specs.Yard.{writes, clockAt, freshDevice}
 use Rattle.rules.specs.Numbers.{placeNumber}
 use Rattle.rules.specs.Tick.Step2.{heed, moved}
 use Rattle.pace.specs.declared.Risen.{Risen}
-use Rattle.pace.specs.Pace.{clockedBy, heardOf, Rises}
+use Rattle.pace.specs.Pace.{clockedBy, heardOf, wentUp}
 use Rattle.yard.specs.Engaged.{bitOf, byteOf}
 use Rattle.yard.proofs.Sweeps.{sweep, risenBy, back, sweep-length, sweep-start, sweep-here, sweep-next, sweep-done}
 use Rattle.pace.proofs.Quiet.{number-below, Still}
@@ -162,13 +162,13 @@ module _ {o : Pass} {k : ℕ} {now : List Device} {from-own : Letter} {byte : �
   -- It has moved.
   pub moves :
       (first : Bool) (heeded : ℕ) {up : Risen} {b : ℕ} → Heeds o k first heeded
-      → Rises (bit (o .input .lost) k) (moved (o .plan .Q) s first heeded (clockedBy s here)) up
+      → up ≡ wentUp (bit (o .input .lost) k) (moved (o .plan .Q) s first heeded (clockedBy s here))
       → b + bitOf k here ≡ byte + bitOf k (up .device)
       → Come o (k + 1) (set now k (up .device)) (cond (eqb k (o .own)) (up .heard) from-own) b × (up .heard ≡ hears o k)
   moves first heeded {up} {b} heeds rises b-is =
       let same = does-here first heeded heeds in
-      let heard : up .heard ≡ hears o k = rises .heard ∙ ap (λ (d : Device). heardOf (bit (o .input .lost) k) (d .letter)) same in
-      (onward (up .device) (up .heard) b (rises .device ∙ ap (writes letter.None) same) heard b-is, heard)
+      let heard : up .heard ≡ hears o k = ap (λ (u : Risen). u .heard) rises ∙ ap (λ (d : Device). heardOf (bit (o .input .lost) k) (d .letter)) same in
+      (onward (up .device) (up .heard) b (ap (λ (u : Risen). u .device) rises ∙ ap (writes letter.None) same) heard b-is, heard)
 
   -- Nothing was due: only its clock has moved.
   pub stays :

@@ -2,9 +2,10 @@
 //
 // Document 01's four steps, and where they are done:
 //   1  the clocks         clocks.rt: `clocked` for a device, `place_clock` and `lease_clock` for the supervisor
-//   2  the devices move   `device::moved`, which `rise` calls (rising.rt); `pace_by` sees where only a clock moves
-//   3  the letters go up  `rise` takes each from its device; then `supervise`: `base::base_move`
-//   4  the down letter    `device::arrived`, which `arrive` calls, at the one device that `reached` has found
+//   2  the devices move   `device::moved`, which `pace::goes_up` calls, and `rise` that (rising.rt); `pace::pace_by`, which
+//                         `pace_of` asks (rising.rt), sees where only a clock moves
+//   3  the letters go up  `pace::goes_up` takes each from its device; then `supervise` (here): `base::base_move`
+//   4  the down letter    `device::arrived`, which `pace::arrive` calls, at the one device that `pace::reached` has found
 // Until its letter is up no device looks at another, so the loop goes from device to device, and not from step to step.
 use crate::bits::engaged_byte;
 use crate::bits::rebit;
@@ -14,8 +15,11 @@ use crate::rising::pace_of;
 use crate::rising::rise;
 use lease::lease_length;
 use pace::Pace;
+use pace::arrive;
 use pace::bit;
+use pace::index_of;
 use pace::listen;
+use pace::own_index;
 use pace::reached;
 use rolls::record_at;
 use rules::BaseMove;
@@ -23,25 +27,21 @@ use rules::Device;
 use rules::Down;
 use rules::Letter;
 use rules::Plan;
-use rules::Slot;
 use rules::Terms;
 use rules::Yard;
 use times::row_of;
-use vocabulary::base_index;
 ghost use mathlib.Core.Path.{_≡_};
-ghost use mathlib.Core.Bool.{true, cond};
+ghost use mathlib.Core.Bool.{true};
 ghost use mathlib.Core.List.{_++_};
-ghost use Prim.Native.Nat.{_-_, _≤_};
+ghost use Prim.Native.Nat.{_≤_};
 ghost use lib.ListN.{length, drop};
 ghost use Rattle.laws.specs.Bits as bits;
-ghost use Rattle.rules.specs.Numbers.{baseIndex};
 ghost use Rattle.rules.specs.declared.Verdict.the-variants.{Accepted};
 ghost use Rattle.rules.specs.Plan.{terms};
 ghost use Rattle.rules.specs.Table.{planVerdict};
 ghost use Rattle.rules.specs.Yard.{wellFormed};
 ghost use Rattle.rules.specs.Tick.Step1.{placeClock, leaseClock};
 ghost use Rattle.rules.specs.Tick.Step3.{baseMove};
-ghost use Rattle.rules.specs.Tick.Step4.{arrived};
 ghost use Rattle.rules.specs.Run.{after, engagedBytes};
 ghost use Rattle.yard.specs.Sent.{lastDown};
 
@@ -57,24 +57,6 @@ fn terms_of(p: Plan) -> Terms
     }
 }
 
-// Where device i stands in an array; there is no device 0, and it stands for device 1.
-fn index_of(i: u8) -> usize
-    ensures { λ r. ⌜ r ≡ i - 1 ⌝ }
-{
-    if i == 0 {
-        return 0;
-    }
-    (i - 1) as usize
-}
-
-// Where the device stands that the supervisor's place is about.
-fn own_index(s: BaseMove) -> usize
-    ensures { λ r. ⌜ r ≡ baseIndex (s .base) - 1 ⌝ }
-{
-    let base = s.base;
-    index_of(base_index(base))
-}
-
 // The supervisor's clocks and its move, by what it hears of the initializer and of the device that its place is about.
 fn supervise(t: Terms, flags: u8, last: Letter, own: Letter, s: BaseMove) -> BaseMove
     requires { ⌜ (s .clock ≤ 36000) × (s .lease ≤ 108000) ⌝ }
@@ -84,15 +66,6 @@ fn supervise(t: Terms, flags: u8, last: Letter, own: Letter, s: BaseMove) -> Bas
     let clock = place_clock(t, base, s.clock);
     let lease = lease_clock(base, s.lease);
     base::base_move(t, bit(flags, 0), last, own, base, clock, lease)
-}
-
-// Device i, which the down letter has reached.
-fn arrive(s: Slot, willing: u8, sent: BaseMove, i: u8, d: Device) -> Device
-    requires { ⌜ i ≤ 8 ⌝ }
-    ensures { λ r. ⌜ r ≡ arrived s (bits.bit willing (i - 1)) (sent .down) i d ⌝ }
-{
-    let down = sent.down;
-    device::arrived(s, bit(willing, index_of(i)), down, i, d)
 }
 
 // The state at the end of some ticks, and the down letter that was sent in the last.

@@ -2,11 +2,9 @@
 use crate::clocks::clocked;
 use pace::Pace;
 use pace::Risen;
-use pace::bit;
-use pace::heard;
+use pace::goes_up;
 use pace::pace_by;
 use rules::Device;
-use rules::Letter;
 use rules::Slot;
 use vocabulary::place_number;
 ghost use mathlib.Core.Path.{_≡_};
@@ -15,7 +13,7 @@ ghost use lib.ListN.{getD};
 ghost use Rattle.laws.specs.Bits as bits;
 ghost use Rattle.rules.specs.Numbers.{placeNumber};
 ghost use Rattle.rules.specs.Tick.Step2.{moved};
-ghost use Rattle.pace.specs.Pace.{clockedBy, paceBy, Rises};
+ghost use Rattle.pace.specs.Pace.{clockedBy, paceBy, wentUp};
 
 // What the device at i does. The row has the times that clocks run to, six for each device, by the number of its place.
 pub(crate) fn pace_of(row: &[u16; 48], i: usize, command: u8, d: Device) -> Pace
@@ -38,12 +36,8 @@ pub(crate) fn rise(
     i: usize,
     d: Device,
 ) -> Risen
-    requires { ⌜ (i < 8) × (d .clock ≤ 36000) ⌝ }
-    ensures { λ r. ⌜ Rises (bits.bit lost i) (moved q s initializer command (clockedBy s d)) r ⌝ }
+    requires { ⌜ d .clock ≤ 36000 ⌝ }
+    ensures { λ r. ⌜ r ≡ wentUp (bits.bit lost i) (moved q s initializer command (clockedBy s d)) ⌝ }
 {
-    let m = device::moved(q, s, initializer, command, clocked(s, d));
-    let letter = m.letter;
-    let device = device::writes(Letter::None, m);
-    let heard = heard(bit(lost, i), letter);
-    Risen { device, heard }
+    goes_up(q, s, initializer, command, lost, i, clocked(s, d))
 }

@@ -120,7 +120,7 @@ rise-requires-2 : tie.Need-rise-requires-2 Inv-loop2 μ-loop2 Inv-loop μ-loop
 rise-requires-2 c κs =
     let turn = c .before .before .before .before .before .before .before .before in
     let done : turn .loop2 .i ≡ turn .before .before .before .before .before .before .before .index-of .result = omega arith in
-    (turn .loop2 .inv .room, rw done at (turn .loop2 .inv .short))
+    rw done at (turn .loop2 .inv .short)
 
 rebit-requires-2 : tie.Need-rebit-requires-2 Inv-loop2 μ-loop2 Inv-loop μ-loop
 rebit-requires-2 c κs =
@@ -136,14 +136,6 @@ array-copy-out-arrive-2 c =
     let few = tick .loop .inv .ready .few in
     let at = c .before .index-of2 .ensures in
     let to = c .before .before .before .reached .ensures .1 in
-    omega arith
-
-arrive-requires : tie.Need-arrive-requires Inv-loop2 μ-loop2 Inv-loop μ-loop
-arrive-requires c κs =
-    let tick = c .before .before .before .before .before .before .before .before .before .before .before .before .before .before .before in
-    let names = ap (λ (t : Terms). t .N) (tick .before .before .before .before .before .before .terms-of .ensures) in
-    let few = tick .loop .inv .ready .few in
-    let to = c .before .before .before .before .reached .ensures .1 in
     omega arith
 
 array-set-from-devices-3 : tie.Need-array-set-from-devices-3 Inv-loop2 μ-loop2 Inv-loop μ-loop
@@ -254,5 +246,5 @@ roll-on-spec =
     (λ c. search needs) rise-requires-2 (λ c κs. search needs) (λ c. search needs) (λ c. search needs)
     rebit-requires-2 (λ c. search needs) (λ c. search needs) (λ c κs. search needs) (λ c κs. search needs)
     (λ c κs. search needs) (λ c. search needs) (λ c. search needs) (λ c. search needs) array-copy-out-arrive-2
-    arrive-requires (λ c. search needs) array-set-from-devices-3 slice-write-engaged add-k (λ c. search needs)
+    (λ c κs. search needs) (λ c. search needs) array-set-from-devices-3 slice-write-engaged add-k (λ c. search needs)
     loop-again same-length returns)

@@ -1,7 +1,7 @@
 use mathlib.Core.Path.{_∙_}
 use borrow.Author.Needs.{needs}
-use Rattle.yard.proofs.engine.arrive.Statement.{statement}
-use Rattle.yard.proofs.engine.arrive.Tie as tie
+use Rattle.pace.proofs.arrive.Statement.{statement}
+use Rattle.pace.proofs.arrive.Tie as tie
 
 returns : tie.Need-returns
 returns c = c .arrived .ensures ∙ rw (c .before .bit .ensures, c .before .before .index-of .ensures)
