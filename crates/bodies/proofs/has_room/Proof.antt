@@ -7,6 +7,4 @@ pub has-room-spec : {M : Type 1} → statement M
 has-room-spec =
     tie.close
     (tie.spec
-    (λ c. too-many _ _ (c .if1 .taken))
-    (λ c. search needs) (λ c. search needs)
-    (λ c. few _ _ (c .if1 .left)))
+    (λ c. too-many _ _ (c .if1 .taken)) (λ c. search needs) (λ c. search needs) (λ c. few _ _ (c .if1 .left)))

@@ -10,8 +10,7 @@ unfolding planFor
 plan-in-spec =
     tie.close
     (tie.spec
-    (λ c κs. search needs)
-    (λ c κs. enough _ _ (sym (c .before .has-room .ensures) ∙ c .if1 .taken))
+    (λ c κs. search needs) (λ c κs. enough _ _ (sym (c .before .has-room .ensures) ∙ c .if1 .taken))
     (λ c. rw (c .held-plan .ensures, ← (c .before .before .has-room .ensures), c .before .if1 .taken))
     (λ c κs. search needs)
     (λ c. rw (c .empty-plan .ensures, ← (c .before .before .has-room .ensures), c .before .if1 .left)))

@@ -37,10 +37,5 @@ pub put-body-spec : {M : Type 1} → statement M
 put-body-spec =
     tie.close
     (tie.spec
-    (λ c κs. search needs)
-    (λ c κs. enough _ _ (sym (c .before .before .has-room .ensures) ∙ c .before .if1 .taken))
-    mul-result
-    add-result
-    (λ c. search needs)
-    returns
-    returns-2)
+    (λ c κs. search needs) (λ c κs. enough _ _ (sym (c .before .before .has-room .ensures) ∙ c .before .if1 .taken))
+    mul-result add-result (λ c. search needs) returns returns-2)

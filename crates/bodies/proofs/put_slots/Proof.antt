@@ -41,12 +41,7 @@ pub put-slots-spec : {M : Type 1} → statement M
 put-slots-spec =
     tie.close
     (tie.spec
-    Inv-loop
-    μ-loop
-    (λ c. (omega arith, no-piece _ _ _, refl))
+    Inv-loop μ-loop (λ c. (omega arith, no-piece _ _ _, refl)) (λ c. search needs) (λ c. search needs)
     (λ c. search needs) (λ c. search needs) (λ c. search needs) (λ c. search needs) (λ c. search needs)
-    (λ c. search needs) (λ c. search needs) (λ c. search needs) (λ c κs. search needs) (λ c. search needs)
-    (λ c. omega arith)
-    loop-again
-    (λ c. c .before .loop .inv .2)
-    returns)
+    (λ c. search needs) (λ c κs. search needs) (λ c. search needs) (λ c. omega arith) loop-again
+    (λ c. c .before .loop .inv .2) returns)

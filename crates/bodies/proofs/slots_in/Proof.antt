@@ -31,12 +31,8 @@ pub slots-in-spec : {M : Type 1} → statement M
 slots-in-spec =
     tie.close
     (tie.spec
-    Inv-loop
-    μ-loop
-    (λ c κs. search needs)
+    Inv-loop μ-loop (λ c κs. search needs)
     (λ c. (search needs, rw (c .before .empty-plan .ensures) (none-read (c .before .before .before .args .body .now))))
     (λ c. search needs) (λ c. search needs) (λ c. search needs) (λ c. search needs) (λ c. search needs)
     (λ c. search needs) (λ c κs. search needs) (λ c. search needs) (λ c. search needs) (λ c. search needs)
-    (λ c. search needs)
-    loop-again
-    returns)
+    (λ c. search needs) loop-again returns)

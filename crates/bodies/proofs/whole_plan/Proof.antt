@@ -9,7 +9,5 @@ unfolding wholePlan planFor
 whole-plan-spec =
     tie.close
     (tie.spec
-    (λ c κs. search needs)
-    (λ c. rw (c .empty-plan .ensures, ne-eqb _ _ (c .before .if1 .taken)))
-    (λ c κs. search needs)
-    (λ c. rw (c .plan-in .ensures, c .before .if1 .left)))
+    (λ c κs. search needs) (λ c. rw (c .empty-plan .ensures, ne-eqb _ _ (c .before .if1 .taken)))
+    (λ c κs. search needs) (λ c. rw (c .plan-in .ensures, c .before .if1 .left)))

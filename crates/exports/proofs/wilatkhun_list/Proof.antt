@@ -27,7 +27,4 @@ pub wilatkhun-list-spec : {M : Type 1} → statement M
 wilatkhun-list-spec =
     tie.close
     (tie.spec
-    (λ c κs. search needs)
-    keep-yard-requires
-    (λ c κs. search needs) (λ c. search needs) (λ c. search needs)
-    returns)
+    (λ c κs. search needs) keep-yard-requires (λ c κs. search needs) (λ c. search needs) (λ c. search needs) returns)

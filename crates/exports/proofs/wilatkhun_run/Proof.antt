@@ -26,7 +26,4 @@ pub wilatkhun-run-spec : {M : Type 1} → statement M
 wilatkhun-run-spec =
     tie.close
     (tie.spec
-    (λ c κs. search needs)
-    keep-yard-requires
-    (λ c κs. search needs) (λ c. search needs) (λ c. search needs)
-    returns)
+    (λ c κs. search needs) keep-yard-requires (λ c κs. search needs) (λ c. search needs) (λ c. search needs) returns)

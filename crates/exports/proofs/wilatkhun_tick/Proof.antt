@@ -25,7 +25,5 @@ pub wilatkhun-tick-spec : {M : Type 1} → statement M
 wilatkhun-tick-spec =
     tie.close
     (tie.spec
-    (λ c κs. search needs)
-    keep-yard-requires
-    (λ c κs. search needs) (λ c κs. search needs) (λ c κs. search needs) (λ c. search needs)
-    returns)
+    (λ c κs. search needs) keep-yard-requires (λ c κs. search needs) (λ c κs. search needs) (λ c κs. search needs)
+    (λ c. search needs) returns)

@@ -9,7 +9,5 @@ unfolding fileStart fileLength
 file-piece-spec =
     tie.close
     (tie.spec
-    (λ c κs. search needs)
-    (λ c. rw (lt-ltb _ 10 (c .before .if1 .taken), c .body-span .ensures))
-    (λ c κs. search needs)
-    (λ c. rw (le-ltb _ 10 (c .before .if1 .left)) (c .last-ten .ensures)))
+    (λ c κs. search needs) (λ c. rw (lt-ltb _ 10 (c .before .if1 .taken), c .body-span .ensures))
+    (λ c κs. search needs) (λ c. rw (le-ltb _ 10 (c .before .if1 .left)) (c .last-ten .ensures)))

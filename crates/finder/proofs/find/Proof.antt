@@ -21,6 +21,5 @@ find-spec =
     (λ c κs. search needs) (λ c. search needs)
     (λ c κs. found-within _ _ (c .before .before .before .locate .ensures) (c .before .found .given .1))
     (λ c. search needs)
-    (λ c κs. found-within _ _ (c .before .before .before .locate .ensures) (c .before .found2 .given .1))
-    returns
+    (λ c κs. found-within _ _ (c .before .before .before .locate .ensures) (c .before .found2 .given .1)) returns
     returns-2)

@@ -38,8 +38,5 @@ pub roll-piece-spec : {M : Type 1} → statement M
 roll-piece-spec =
     tie.close
     (tie.spec
-    (λ c κs. search needs) (λ c κs. search needs) (λ c κs. search needs)
-    returns
-    (λ c κs. search needs) (λ c κs. search needs) (λ c κs. search needs)
-    returns-2
-    returns-3)
+    (λ c κs. search needs) (λ c κs. search needs) (λ c κs. search needs) returns (λ c κs. search needs)
+    (λ c κs. search needs) (λ c κs. search needs) returns-2 returns-3)

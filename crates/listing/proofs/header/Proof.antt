@@ -18,5 +18,4 @@ header-spec =
     (λ c. let a = c .before .before .before .args in tight (a .n) (a .out .now) (a .at) (omega arith))
     (λ c. search needs)
     (λ c. let a = c .before .before .before .before .args in tight (a .n) (a .out .now) (a .at) (omega arith))
-    (λ c κs. search needs) (λ c. search needs)
-    returns-4)
+    (λ c κs. search needs) (λ c. search needs) returns-4)

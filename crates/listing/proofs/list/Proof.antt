@@ -14,7 +14,6 @@ pub list-spec : {M : Type 1} → statement M
 list-spec =
     tie.close
     (tie.spec
-    (λ c κs. search needs) (λ c. search needs) (λ c. search needs)
-    returns
+    (λ c κs. search needs) (λ c. search needs) (λ c. search needs) returns
     (λ c κs. sym (c .before .before .before .roll-verdict .ensures) ∙ c .before .enum-told .given .1)
     (λ c. search needs) (λ c. search needs))

@@ -61,13 +61,6 @@ pub read-spec : {M : Type 1} → statement M
 read-spec =
     tie.close
     (tie.spec
-    (λ c κs. search needs) (λ c κs. search needs) (λ c. search needs) (λ c. search needs)
-    (λ c κs. search needs) (λ c κs. search needs)
-    returns
-    (λ c. search needs) (λ c. search needs)
-    sub-start
-    (λ c. search needs) (λ c. search needs) (λ c. search needs)
-    part-read-body-end
-    (λ c κs. search needs)
-    read-body-requires
-    returns-2)
+    (λ c κs. search needs) (λ c κs. search needs) (λ c. search needs) (λ c. search needs) (λ c κs. search needs)
+    (λ c κs. search needs) returns (λ c. search needs) (λ c. search needs) sub-start (λ c. search needs)
+    (λ c. search needs) (λ c. search needs) part-read-body-end (λ c κs. search needs) read-body-requires returns-2)

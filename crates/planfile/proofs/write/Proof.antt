@@ -55,12 +55,5 @@ pub write-spec : {M : Type 1} → statement M
 write-spec =
     tie.close
     (tie.spec
-    (λ c κs. search needs) (λ c. search needs) (λ c. search needs)
-    returns
-    (λ c. search needs)
-    (λ c κs. search needs)
-    cast-trailer-for
-    (λ c κs. search needs) (λ c κs. search needs)
-    add-t6
-    (λ c. search needs)
-    returns-2)
+    (λ c κs. search needs) (λ c. search needs) (λ c. search needs) returns (λ c. search needs) (λ c κs. search needs)
+    cast-trailer-for (λ c κs. search needs) (λ c κs. search needs) add-t6 (λ c. search needs) returns-2)

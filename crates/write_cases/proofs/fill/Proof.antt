@@ -15,11 +15,7 @@ pub fill-spec : {M : Type 1} → statement M
 fill-spec =
     tie.close
     (tie.spec
-    Inv-loop
-    μ-loop
-    (λ c. refl)
-    (λ c. search needs) (λ c κs. search needs) (λ c. search needs)
+    Inv-loop μ-loop (λ c. refl) (λ c. search needs) (λ c κs. search needs) (λ c. search needs)
     (λ c. simp length-set (search needs))
-    (λ c. length-set (c .before .before .loop .buffer) _ _ ∙ c .before .before .loop .inv)
-    (λ c. c .before .loop .inv)
+    (λ c. length-set (c .before .before .loop .buffer) _ _ ∙ c .before .before .loop .inv) (λ c. c .before .loop .inv)
     (λ c. search needs))

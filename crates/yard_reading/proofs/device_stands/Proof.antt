@@ -6,6 +6,5 @@ pub device-stands-spec : {M : Type 1} → statement M
 device-stands-spec =
     tie.close
     (tie.spec
-    (λ c κs. search needs) (λ c. search needs) (λ c κs. search needs) (λ c. search needs)
-    (λ c κs. search needs)
+    (λ c κs. search needs) (λ c. search needs) (λ c κs. search needs) (λ c. search needs) (λ c κs. search needs)
     (λ c. rw (c .byte-at2 .ensures, c .before .byte-at .ensures, c .before .before .device-start .ensures)))

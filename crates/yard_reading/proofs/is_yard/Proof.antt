@@ -25,6 +25,4 @@ pub is-yard-spec : {M : Type 1} → statement M
 is-yard-spec =
     tie.close
     (tie.spec
-    returns
-    (λ c κs. search needs) (λ c κs. search needs) (λ c κs. search needs) (λ c κs. search needs)
-    returns-2)
+    returns (λ c κs. search needs) (λ c κs. search needs) (λ c κs. search needs) (λ c κs. search needs) returns-2)

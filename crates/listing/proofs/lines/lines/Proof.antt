@@ -52,14 +52,6 @@ pub lines-spec : {M : Type 1} → statement M
 lines-spec =
     tie.close
     (tie.spec
-    Inv-loop
-    μ-loop
-    (λ c κs. search needs)
-    (λ c. start _ _ _ _ _)
-    (λ c. search needs) (λ c κs. search needs) (λ c κs. search needs) (λ c κs. search needs)
-    (λ c. search needs) (λ c. search needs) (λ c κs. search needs) (λ c κs. search needs)
-    add-k
-    loop-less
-    loop-again
-    (λ c. length-kept (c .before .loop .inv .laid))
-    returns)
+    Inv-loop μ-loop (λ c κs. search needs) (λ c. start _ _ _ _ _) (λ c. search needs) (λ c κs. search needs)
+    (λ c κs. search needs) (λ c κs. search needs) (λ c. search needs) (λ c. search needs) (λ c κs. search needs)
+    (λ c κs. search needs) add-k loop-less loop-again (λ c. length-kept (c .before .loop .inv .laid)) returns)
