@@ -1,4 +1,6 @@
 // What crosses to C and Rust: a verdict as its number and index, a piece by three numbers. No function here has a `requires`.
+#![tactic(auto)]
+
 ghost use Rattle.std.specs.Prelude.{◌≡◌};
 ghost use Rattle.exports_rules.specs.Asked.{size_verdict};
 ghost use Rattle.exports_rules.specs.Calls.{Answered, which_of, start_of, length_of};

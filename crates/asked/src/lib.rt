@@ -1,5 +1,7 @@
 // The answers of document 01's calls to plans and yards that are lent as bytes. A wrong length is refused before all else.
 // `exports` hands them out as numbers and bytes. No function here has a `requires`.
+#![tactic(auto)]
+
 ghost use Rattle.std.specs.Prelude.{◌≡◌, length, take};
 ghost use Rattle.rules.specs.declared.Verdict.TheVariants.{Accepted};
 ghost use Rattle.planfile_rules.specs.File.{whole_plan};

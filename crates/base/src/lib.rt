@@ -2,6 +2,8 @@
 // It only compares clocks and sets them to 0, so it takes any place and any clocks, and no public function here has a
 // `requires`; two private ones take it that i is below N.
 // `last` is what is heard from the initializer, `own` what is heard from the device i of the supervisor's place.
+#![tactic(auto)]
+
 ghost use Rattle.std.specs.Prelude.{◌≡◌, ◌-◌, ◌<◌};
 ghost use Rattle.rules.specs.Yard as yard;
 ghost use Rattle.rules.specs.Tick.Step3 as step3;

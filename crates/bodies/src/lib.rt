@@ -1,6 +1,8 @@
 // The body of a plan file, and the plan that it holds: N, W, B, Q, then six times for each device, two bytes each. It is read and
 // written here, and not judged. It takes any bytes, any plan, any number of devices and any buffer; no public function here has
 // a `requires`.
+#![tactic(auto)]
+
 ghost use Rattle.std.specs.Prelude.{◌≡◌, ◌++◌, ◌+◌, ◌*◌, ◌≤◌, length, drop};
 ghost use Rattle.laws.specs.Written.{Written};
 ghost use Rattle.planfile_rules.specs.File.{slots_in, plan_in, body_fits, plan_for, whole_plan};

@@ -1,11 +1,13 @@
 // The input of the programs that try cases, number by number: little-endian, and 0 where the input has ended. What is read, no
 // contract can say.
+#![tactic(auto)]
+
 use libc::STDIN_FILENO;
 use numbers::read::four_at;
 use numbers::widths::{long, long_byte};
 use rules::Verdict;
 
-#[derive(Drop)]
+#[derive(Clone, Copy)]
 pub struct Number {
     pub there: bool,
     pub value: usize,

@@ -2,6 +2,8 @@
 // function here has a `requires`.
 //
 // At each index the lines that are asked there are tried in the table's order. The answer is the first that is broken.
+#![tactic(auto)]
+
 ghost use Rattle.std.specs.Prelude.{◌≡◌, ◌*◌, ◌≤◌};
 ghost use Rattle.rules.specs.Plan.{is_time};
 ghost use Rattle.conditions.specs.Lines.{size_holds, yard_times, device_times, pair_times, no_spacing, all_zero, c2_holds, c3_holds, c4_holds, c5_holds, c6_holds, c7_holds, yard_line, pair_line, last_line, unused_line, slot_line};

@@ -1,5 +1,7 @@
 // What one device does in a tick: its own move (step 2) and the letter that reaches it (step 4), made of the ways in which a
 // device changes. These only compare clocks and set them, so they take any device, and no function here has a `requires`.
+#![tactic(auto)]
+
 ghost use Rattle.std.specs.Prelude.{◌≡◌};
 ghost use Rattle.rules.specs.Yard as yard;
 ghost use Rattle.rules.specs.Tick.Step2 as step2;

@@ -3,6 +3,8 @@
 // A number behind a reference (index, ticks, length, start, down, device) is always written. A call that refuses changes no
 // byte of a lent buffer. No exported function has a `requires`; of the private ones, those that keep a yard or a plan rest on
 // the length that was looked at before.
+#![tactic(auto)]
+
 mod kept;
 
 ghost use Rattle.std.specs.Prelude.{◌≡◌, ◌+◌, length};

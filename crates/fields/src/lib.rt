@@ -1,5 +1,7 @@
 // The fields of a line, each laid from a place on with a space before it; the answer is where it ends. What has no room is cut
 // off, as in `text`: none of these has a `requires`. Whole lines stand in `line`.
+#![tactic(auto)]
+
 ghost use Rattle.std.specs.Prelude.{◌≡◌, [], ◌∷◌, ◌++◌, ◌-◌, get_or};
 ghost use Rattle.laws.specs.Lists.{tabulate};
 ghost use Rattle.text_rules.specs.Decimal.{decimal};

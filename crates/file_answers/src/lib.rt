@@ -1,5 +1,7 @@
 // What a plan file's reader and its writer answer, apart from the bytes: the plan beside a verdict, and whether a plan is
 // written. It takes any verdict, any plan and any room; no function here has a `requires`.
+#![tactic(auto)]
+
 ghost use Rattle.std.specs.Prelude.{◌≡◌};
 ghost use Rattle.rules.specs.Verdict.{first_of};
 ghost use Rattle.planfile_rules.specs.File.{empty_plan, answer_of};

@@ -1,5 +1,7 @@
 // The finder: of a plan file and a roll, the bytes that are refused. It takes any two lent slices, and names a part of one of
 // them by numbers, or hands that part back; no public function here has a `requires`.
+#![tactic(auto)]
+
 ghost use Rattle.std.specs.Prelude.{◌≡◌, ◌+◌, ◌-◌, ◌≤◌, min, length};
 ghost use Rattle.finder_rules.specs.declared.Piece.TheVariants.{InFile, InRoll};
 ghost use Rattle.finder_rules.specs.Piece.{PartOf, Lies, file_start, file_length, roll_start, roll_length, piece};

@@ -1,7 +1,8 @@
 // Document 01's finder: the type here, definitions and theorems in specs/. The functions that find stand in `finder`.
+#![tactic(auto)]
 
 // A part of the file or of the roll: where it starts, and how many bytes it has.
-#[derive(Drop)]
+#[derive(Clone, Copy)]
 pub enum Piece {
     InFile { start: usize, len: usize },
     InRoll { start: usize, len: usize },

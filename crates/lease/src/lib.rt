@@ -1,4 +1,6 @@
 // How long a stay is, and with it the lease: LS. No function here has a `requires`.
+#![tactic(auto)]
+
 ghost use Rattle.std.specs.Prelude.{◌≡◌, ◌<◌};
 ghost use Rattle.rules.specs.Plan.{stay_of, LS};
 

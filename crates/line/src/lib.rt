@@ -1,4 +1,6 @@
 // Whole lines, for any number of devices, field after field: what has no room is cut off. None of these has a `requires`.
+#![tactic(auto)]
+
 ghost use Rattle.std.specs.Prelude.{◌∷◌};
 ghost use Rattle.laws.specs.Lists.{tabulate};
 ghost use Rattle.text_rules.specs.Decimal.{decimal};

@@ -1,5 +1,7 @@
 // Document 01's text of a run: the header and a line a tick, written into buffers that the caller lends.
 // No public function here has a `requires`.
+#![tactic(auto)]
+
 mod lines;
 
 ghost use Rattle.std.specs.Prelude.{◌≡◌, ◌+◌, length};

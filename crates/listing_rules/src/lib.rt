@@ -1,9 +1,11 @@
 // Document 01's "Worked yards", what the program prints: types here, definitions and theorems in specs/. The text is made in
 // `listing`.
+#![tactic(auto)]
+
 use rules::{Verdict, Yard};
 
 // What a listing answers: the yard at the end of the ticks done, how many these are, and the length of their lines.
-#[derive(Drop)]
+#[derive(Clone, Copy)]
 pub struct Listed {
     pub verdict: Verdict,
     pub yard: Yard,

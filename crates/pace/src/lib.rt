@@ -1,5 +1,7 @@
 // What one device does in a tick and what is heard of it, as far as it can be told for any device and any clock: no function
 // here has a `requires`. The run's loop in `yard` goes by these; step 1 of a device that moves is done there.
+#![tactic(auto)]
+
 ghost use Rattle.std.specs.Prelude.{◌≡◌, cond, ◌-◌, ◌≤◌};
 ghost use Rattle.laws.specs.Bits as bits;
 ghost use Rattle.rules.specs.Yard as rules;
@@ -44,7 +46,7 @@ pub fn stops_at(limit: u16, clock: u16) -> u16
 }
 
 // What a device does in a tick: only its clock moves, to this, or more than that.
-#[derive(Drop)]
+#[derive(Clone, Copy)]
 pub enum Pace {
     NothingDue(u16),
     Moves,
@@ -84,7 +86,7 @@ pub fn heard(lost: bool, letter: Letter) -> Letter
 }
 
 // A device that has moved and whose letter has gone up, and what is heard of that letter.
-#[derive(Drop)]
+#[derive(Clone, Copy)]
 pub struct Risen {
     pub device: Device,
     pub heard: Letter,

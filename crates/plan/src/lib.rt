@@ -2,6 +2,8 @@
 //
 // Every index is looked at once: 0 for the yard, 1 to N for the devices, above N for the unused slots. At each, the lines
 // that are asked there are tried in the table's order. The verdict is the lowest line found, at the first index that has it.
+#![tactic(auto)]
+
 ghost use Rattle.std.specs.Prelude.{◌≡◌, ◌<◌};
 ghost use Rattle.rules.specs.Table.{plan_verdict};
 ghost use Rattle.plan.specs.Places.{place_after};

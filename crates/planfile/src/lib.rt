@@ -3,6 +3,8 @@
 //
 // The trailer, at the file's end, is read as numbers and judged as numbers. Only when it is taken is the body, a part of the
 // file from wherever the trailer says, handed on to be read.
+#![tactic(auto)]
+
 ghost use Rattle.std.specs.Prelude.{◌≡◌, ◌+◌, ◌*◌, ◌≤◌, length, take};
 ghost use Rattle.rules.specs.declared.Verdict.TheVariants as verdict;
 ghost use Rattle.planfile_rules.specs.File.{plan_in, body_verdict, answer_of, read_answer, body_span};

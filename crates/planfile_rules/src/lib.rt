@@ -1,9 +1,11 @@
 // Document 01's "The plan file": types here, definitions and theorems in specs/. Its reader and its writer stand in `planfile`.
+#![tactic(auto)]
+
 use rules::{Plan, Verdict};
 
 // The last ten bytes of a file: the body's length, the version, the distance back from the file's end to the body, and the
 // two bytes that every plan file ends with.
-#[derive(Drop)]
+#[derive(Clone, Copy)]
 pub struct Trailer {
     pub size: u16,
     pub version: u16,
@@ -12,20 +14,20 @@ pub struct Trailer {
 }
 
 // A part of a file: where it starts, and how many bytes it has.
-#[derive(Drop)]
+#[derive(Clone, Copy)]
 pub struct Span {
     pub start: usize,
     pub len: usize,
 }
 
-#[derive(Drop)]
+#[derive(Clone, Copy)]
 pub struct ReadAnswer {
     pub verdict: Verdict,
     pub plan: Plan,
 }
 
 // What the writer answers: the verdict, and how many bytes it wrote.
-#[derive(Drop)]
+#[derive(Clone, Copy)]
 pub struct WriteAnswer {
     pub verdict: Verdict,
     pub length: usize,

@@ -1,8 +1,10 @@
 // A plan as text, for crews: types here, definitions and theorems in specs/. Its reader and its writer stand in `plantext`.
+#![tactic(auto)]
+
 use rules::{Plan, Verdict};
 
 // Where a reader stands in a text.
-#[derive(Drop)]
+#[derive(Clone, Copy)]
 pub enum Stand {
     // At the start of a line.
     LineStart,
@@ -24,7 +26,7 @@ pub enum Stand {
 
 // The line, counted from 1, and whose it is: the yard's (0), device i's; which of its fields is being read, and what has been
 // read of that field's number.
-#[derive(Drop)]
+#[derive(Clone, Copy)]
 pub struct Cursor {
     pub stand: Stand,
     pub line: usize,
@@ -35,13 +37,13 @@ pub struct Cursor {
 }
 
 // What has been read: how far, and the plan so far.
-#[derive(Drop)]
+#[derive(Clone, Copy)]
 pub struct Reader {
     pub cursor: Cursor,
     pub plan: Plan,
 }
 
-#[derive(Drop)]
+#[derive(Clone, Copy)]
 pub struct TextAnswer {
     pub verdict: Verdict,
     pub plan: Plan,

@@ -1,5 +1,7 @@
 // Whether a tick, a roll or a run is refused, before anything moves: plan, state, then what is to be done. No function here has a
 // `requires`.
+#![tactic(auto)]
+
 ghost use Rattle.std.specs.Prelude.{◌≡◌, [], ◌∷◌, ltb};
 ghost use Rattle.rules.specs.Verdict.{refused_if, first_refusal};
 ghost use Rattle.rules.specs.Table.{plan_verdict};

@@ -2,6 +2,8 @@
 // current folder, from a fresh yard, and prints the listing, or `refused NUMBER INDEX` and nothing else.
 // A file that is missing, or that cannot be read to its end, counts as empty; a line on standard error says which and why.
 // Where standard output cannot be written the program stops at once, and a line on standard error says why.
+#![tactic(auto)]
+
 use libc::STDOUT_FILENO;
 use rules::{Plan, Verdict, Yard};
 

@@ -1,4 +1,6 @@
 // The program that crews run: it rehearses the yard in the current folder.
+#![tactic(auto)]
+
 fn main() {
     rehearsal::rehearse();
 }

@@ -1,5 +1,7 @@
 // A roll of records: how many it has, where they start, the record at a place, and whether records are valid (refusal 10). The
 // width of a record stands here alone. No public function here has a `requires`.
+#![tactic(auto)]
+
 ghost use Rattle.std.specs.Prelude.{◌≡◌, ◌-◌, min};
 ghost use Rattle.rules.specs.declared.Plan.{Plan};
 ghost use Rattle.rules.specs.Tick.Input.{valid_record};

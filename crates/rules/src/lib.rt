@@ -3,10 +3,11 @@
 // the definitions honest, and the crates above have the calls.
 //
 // The first variant of each enum is the one of a fresh yard. Single capitals are document 01's own names.
+#![tactic(auto)]
 
 // The times of one device, in ticks: F (rest), E (enter), R (run), X (exit), and of the pair that it makes with
 // the next device: G (enter spacing), S (exit spacing).
-#[derive(Drop)]
+#[derive(Clone, Copy)]
 pub struct Slot {
     pub F: u16,
     pub E: u16,
@@ -17,7 +18,7 @@ pub struct Slot {
 }
 
 // N devices, the yard's W (wait), B (base rest) and Q (request limit), and eight device slots: device i's is slots[i - 1].
-#[derive(Drop)]
+#[derive(Clone, Copy)]
 pub struct Plan {
     pub N: u16,
     pub W: u16,
@@ -28,14 +29,14 @@ pub struct Plan {
 
 // What a call answers of its input: taken, or refused with document 01's number and index. An index may be a record's
 // number in a roll of any length.
-#[derive(Drop)]
+#[derive(Clone, Copy)]
 pub enum Verdict {
     Accepted,
     Refused { number: u8, index: usize },
 }
 
 // Where the supervisor stands; the number is the device i of Lease i, Cancel i and Abort i, from 1.
-#[derive(Drop)]
+#[derive(Clone, Copy)]
 pub enum Base {
     FallBack,
     Lease(u8),
@@ -44,7 +45,7 @@ pub enum Base {
 }
 
 // Where a device stands. Only the initializer is ever in Requesting.
-#[derive(Drop)]
+#[derive(Clone, Copy)]
 pub enum Place {
     FallBack,
     Requesting,
@@ -55,7 +56,7 @@ pub enum Place {
 }
 
 // The letter that waits at a device to go up.
-#[derive(Drop)]
+#[derive(Clone, Copy)]
 pub enum Letter {
     None,
     Request,
@@ -67,7 +68,7 @@ pub enum Letter {
 
 // Each device holds its place, its clock and at most one letter waiting to go up. In this order a device takes six bytes, and a
 // clock is stored without touching the place beside it; with the clock first it would be read back whole, and wait for that.
-#[derive(Drop)]
+#[derive(Clone, Copy)]
 pub struct Device {
     pub place: Place,
     pub clock: u16,
@@ -76,7 +77,7 @@ pub struct Device {
 
 // The supervisor's place with its place clock and its lease clock, and eight devices: device i is devices[i - 1].
 // The lease clock may pass 65,535; no other clock does.
-#[derive(Drop)]
+#[derive(Clone, Copy)]
 pub struct Yard {
     pub base: Base,
     pub clock: u16,
@@ -85,7 +86,7 @@ pub struct Yard {
 }
 
 // The four bytes of one tick's input, as they stand in a roll.
-#[derive(Drop)]
+#[derive(Clone, Copy)]
 pub struct Record {
     pub command: u8,
     pub flags: u8,
@@ -94,7 +95,7 @@ pub struct Record {
 }
 
 // The letter that the supervisor sends down in a tick, with the device that it is for.
-#[derive(Drop)]
+#[derive(Clone, Copy)]
 pub enum Down {
     None,
     LeaseReq(u8),
@@ -104,7 +105,7 @@ pub enum Down {
 }
 
 // What the supervisor goes by of an accepted plan: N, W, B, and LS = E1 + R1 + X1.
-#[derive(Drop)]
+#[derive(Clone, Copy)]
 pub struct Terms {
     pub N: u8,
     pub W: u16,
@@ -113,7 +114,7 @@ pub struct Terms {
 }
 
 // What the supervisor does in a tick: where it then stands, with both clocks, and the letter that it sends.
-#[derive(Drop)]
+#[derive(Clone, Copy)]
 pub struct BaseMove {
     pub base: Base,
     pub clock: u16,
@@ -121,20 +122,20 @@ pub struct BaseMove {
     pub down: Down,
 }
 
-#[derive(Drop)]
+#[derive(Clone, Copy)]
 pub struct FreshAnswer {
     pub verdict: Verdict,
     pub yard: Yard,
 }
 
-#[derive(Drop)]
+#[derive(Clone, Copy)]
 pub struct TickAnswer {
     pub verdict: Verdict,
     pub yard: Yard,
     pub down: Down,
 }
 
-#[derive(Drop)]
+#[derive(Clone, Copy)]
 pub struct RunAnswer {
     pub verdict: Verdict,
     pub yard: Yard,

@@ -1,5 +1,7 @@
 // The program on the files of each folder of data/ that standard input names, one to a line, after the folder's name; what it
 // must print is in stdout. What stands behind byte 40,000 of a roll is not looked at, and a missing file counts as empty.
+#![tactic(auto)]
+
 use libc::{STDIN_FILENO, STDOUT_FILENO};
 
 // The first `len` bytes of a block; all of it, if it has no more.

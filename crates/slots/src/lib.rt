@@ -1,5 +1,7 @@
 // A device's part of a plan file's body: its six times in twelve bytes, read and written. It takes any bytes and any buffer; no
 // function here has a `requires`.
+#![tactic(auto)]
+
 ghost use Rattle.std.specs.Prelude.{◌≡◌};
 ghost use Rattle.laws.specs.Written.{Written};
 ghost use Rattle.planfile_rules.specs.File.{slot_in};

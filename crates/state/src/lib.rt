@@ -1,4 +1,6 @@
 // Whether a state is well formed (refusal 11). It takes any plan and any state; no public function here has a `requires`.
+#![tactic(auto)]
+
 ghost use Rattle.std.specs.Prelude.{◌≡◌, ◌≤◌};
 ghost use Rattle.rules.specs.Plan.{slot, LS, is_device, is_participant};
 ghost use Rattle.rules.specs.Yard.{index_formed, clock_formed, lease_formed, place_formed, letter_formed, is_fresh, device_formed, base_formed, well_formed, same_place, same_letter};

@@ -2,6 +2,8 @@
 // ends, and where the next one goes.
 //
 // Every function here is total: what has no room is cut off, and nothing is written past the end. None has a `requires`.
+#![tactic(auto)]
+
 ghost use Rattle.std.specs.Prelude.{[], ◌∷◌};
 ghost use Rattle.text_rules.specs.Decimal.{decimal};
 ghost use Rattle.text_rules.specs.Laid.{Laid};

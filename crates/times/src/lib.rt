@@ -1,5 +1,7 @@
 // A plan's times as a row of plain numbers, six for each device: the time that its clock runs to, by the number of its
 // place. A row can be lent, and one look at it says when a device is due. No function here has a `requires`.
+#![tactic(auto)]
+
 ghost use Rattle.std.specs.Prelude.{◌≡◌};
 ghost use Rattle.times.specs.Times.{row_of};
 

@@ -1,5 +1,7 @@
 // A plan file's trailer, its last ten bytes: read as numbers, judged as numbers, and written. It takes any bytes and any
 // buffer; no function here has a `requires`.
+#![tactic(auto)]
+
 ghost use Rattle.std.specs.Prelude.{◌≡◌, ◌+◌};
 ghost use Rattle.laws.specs.Written.{Written};
 ghost use Rattle.rules.specs.declared.Verdict.TheVariants as verdict;

@@ -6,6 +6,8 @@
 // piece is of the roll (1), where it starts (4) and how long it is (4).
 // Kind 1, a write: the plan (104), the length of the buffer lent (4), then the refusal's number (1) and index (4), and the length
 // (4) and bytes of what is written.
+#![tactic(auto)]
+
 mod reads;
 
 use case_input::byte;

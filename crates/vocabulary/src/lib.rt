@@ -1,6 +1,8 @@
 // Places, letters, bases, down letters and verdicts by number: the vocabulary that comparisons, bytes and text share. A number
 // that stands for nothing is read as the first of its kind; callers that must tell have looked before. No function here has
 // a `requires`.
+#![tactic(auto)]
+
 ghost use Rattle.std.specs.Prelude.{◌≡◌};
 ghost use Rattle.rules.specs.Verdict.{number_of, index_of};
 ghost use Rattle.rules.specs.Numbers.{place_number, place_of, letter_number, letter_of, base_number, base_index, base_of, down_number, down_index};

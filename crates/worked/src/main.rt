@@ -1,6 +1,8 @@
 // Document 01's worked plans that carry no star: W = 4, G1 = 0, N = 1, N = 9, and the paper's pendulum settings in
 // tenths of a second (5 at 0).
 // Each line is number and index.
+#![tactic(auto)]
+
 use libc::STDOUT_FILENO;
 use rules::{Plan, Slot, Verdict};
 

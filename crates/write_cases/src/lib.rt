@@ -1,5 +1,7 @@
 // Cases of plans that are written as files: what the writer says of each, and every byte of the buffer. `vectors` runs them. What
 // is read, no contract can say.
+#![tactic(auto)]
+
 use bodies::PLAN_SIZE;
 use case_input::{is_said, number_or_zero};
 use libc::STDIN_FILENO;

@@ -51,7 +51,7 @@ fn supervise(t: Terms, flags: u8, last: Letter, own: Letter, s: BaseMove) -> Bas
 }
 
 // The state at the end of some ticks, and the down letter that was sent in the last.
-#[derive(Drop)]
+#[derive(Clone, Copy)]
 pub(crate) struct Stepped {
     pub yard: Yard,
     pub down: Down,

@@ -1,4 +1,6 @@
 // The yard's calls: a fresh yard, one tick, a run. No public function here has a `requires`.
+#![tactic(auto)]
+
 mod bits;
 mod clocks;
 mod engine;

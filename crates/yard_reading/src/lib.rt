@@ -1,5 +1,7 @@
 // A yard read from its bytes, as `layout` writes them. It takes any bytes; no function here has a `requires`: bytes that hold no
 // yard are read as one that is never well formed.
+#![tactic(auto)]
+
 ghost use Rattle.std.specs.Prelude.{◌≡◌, ◌+◌, replicate};
 ghost use Rattle.laws.specs.Tests.{each};
 ghost use Rattle.laws.specs.Lists.{tabulate};
