@@ -1,0 +1,25 @@
+use borrow.Author.Tests.{eq-eqb, ne_eqb}
+use Rattle.rules.specs.Numbers.{base_of}
+use Rattle.vocabulary.proofs.base_of.Goals as goal
+
+pub returns-then-number-eq1 : goal.returns-then-number-eq1
+unfolding base_of
+returns-then-number-eq1 c = rw (eq-eqb _ _ c.if-number-eq1.true)
+
+pub returns-then-number-eq2 : goal.returns-then-number-eq2
+unfolding base_of
+returns-then-number-eq2 c = rw (eq-eqb _ _ c.if-number-eq2.true, ne_eqb _ _ c.if-number-eq1.false)
+
+pub returns-then-number-eq3 : goal.returns-then-number-eq3
+unfolding base_of
+returns-then-number-eq3 c =
+    let not_2 = ne_eqb _ _ c.if-number-eq2.false in
+    let not_1 = ne_eqb _ _ c.if-number-eq1.false in
+    rw (eq-eqb _ _ c.if-number-eq3.true, not_2, not_1)
+
+pub returns : goal.returns
+unfolding base_of
+returns c =
+    let not_2 = ne_eqb _ _ c.if-number-eq2.false in
+    let not_1 = ne_eqb _ _ c.if-number-eq1.false in
+    rw (ne_eqb _ _ c.if-number-eq3.false, not_2, not_1)
