@@ -1,0 +1,5 @@
+use borrow.Author.Rules.{rules}
+use Rattle.base.proofs.same_letter.Goals as goal
+
+pub returns : goal.returns
+returns c = cc

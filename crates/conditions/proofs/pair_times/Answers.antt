@@ -1,0 +1,5 @@
+use borrow.Author.Rules.{rules}
+use Rattle.conditions.proofs.pair_times.Goals as goal
+
+pub returns : goal.returns
+returns c = cc

@@ -1,0 +1,7 @@
+use mathlib.Core.Path.{◌∙◌, ap}
+use Rattle.rules.specs.Yard.{writes}
+use borrow.Author.Rules.{rules}
+use Rattle.device.proofs.goes_writing.Goals as goal
+
+pub returns : goal.returns
+returns c = c.writes.ensures ∙ ap (writes _) c.goes_to.ensures
