@@ -1,0 +1,6 @@
+use Rattle.rolls.proofs.Bounds.{is_bound}
+use borrow.Author.Rules.{rules}
+use Rattle.rolls.proofs.bound.Goals as goal
+
+pub returns : goal.returns
+returns c = rw c.less.ensures (is_bound c.args.k)

@@ -1,0 +1,7 @@
+use Rattle.planfile_rules.specs.Writing.{trailer_for}
+use borrow.Author.Rules.{rules}
+use Rattle.trailer.proofs.trailer_for.Goals as goal
+
+pub returns : goal.returns
+unfolding trailer_for
+returns c = rw (c.broad.ensures.0, c.wide.ensures.0)
