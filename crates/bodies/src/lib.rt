@@ -95,7 +95,7 @@ fn put_held(p: Plan, n: usize, out: &mut [u8])
 // plan has eight slots is what its type says; whoever reads the body back wants to know it.
 pub fn put_body(p: Plan, n: usize, out: &mut [u8]) -> usize
     ensures written { Written out.old 0 (body_written p n (length out.old)) out.new result }
-    ensures slots_len { length p.slots ≡ 8 }
+    ensures eight_slots { length p.slots ≡ 8 }
 {
     if has_room(n, out.len()) {
         put_held(p, n, out);

@@ -34,7 +34,7 @@ fn read_body(body: &[u8], n: u16) -> ReadAnswer
 // file without notes gives its bytes back.
 pub fn read(file: &[u8]) -> ReadAnswer
     ensures value { result ≡ read_answer file.now }
-    ensures plan_value { result.verdict ≡ verdict.Accepted → WithoutNotes file.now → file_bytes result.plan ≡ file.now }
+    ensures written_back { result.verdict ≡ verdict.Accepted → WithoutNotes file.now → file_bytes result.plan ≡ file.now }
 {
     let len = file.len();
     let t = trailer_of(file);

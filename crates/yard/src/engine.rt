@@ -60,9 +60,9 @@ pub(crate) struct Stepped {
 // As many ticks as asked, from a state that is well formed under a plan that is accepted; the buffer has room. Beyond
 // its end a roll has records of zeros.
 pub(crate) fn roll_on(p: Plan, y: Yard, roll: &[u8], ticks: usize, engaged: &mut [u8]) -> Stepped
-    requires p_value { (plan_verdict p ≡ Accepted) × (well_formed p y ≡ true) }
+    requires sound { (plan_verdict p ≡ Accepted) × (well_formed p y ≡ true) }
     requires ticks_in_bounds { ticks ≤ length engaged.old }
-    ensures yard_value { (result.yard ≡ after p y roll.now ticks) × (result.down ≡ last_down p y roll.now ticks) }
+    ensures yard_after { (result.yard ≡ after p y roll.now ticks) × (result.down ≡ last_down p y roll.now ticks) }
     ensures engaged_after { engaged.new ≡ engaged_bytes p y roll.now ticks ++ drop ticks engaged.old }
 {
     let t = terms_of(p);

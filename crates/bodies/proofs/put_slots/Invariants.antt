@@ -1,0 +1,21 @@
+use Prim.Native.Nat.{◌+◌, ◌-◌, ◌*◌, ◌≤◌}
+use native.Mathlib.Omega.{arith}
+use mathlib.Core.Path.{◌≡◌, refl}
+use lib.ListN.{length, get_or}
+use borrow.Author.Rules.{rules}
+use Rattle.laws.specs.Lists.{joined}
+use Rattle.laws.specs.Written.{Written}
+use Rattle.laws.proofs.Writes.{no_piece, next_member, length_kept, as_end, into_part}
+use Rattle.rules.specs.Plan.{empty_slot}
+use Rattle.planfile_rules.specs.Writing.{slot_bytes}
+use Rattle.planfile_rules.proofs.Bodies.{slot_wide}
+use Rattle.bodies.proofs.put_slots.Given as goal
+
+abbrev pub invariant-loop-j : goal.invariant-loop-j
+invariant-loop-j l =
+    (l.j ≤ l.n)
+    × Written l.initial.out 8 (joined (λ i. slot_bytes (get_or l.slots (i - 1) empty_slot)) l.j) l.out (8 + 12 * l.j)
+    × (length l.out ≡ length l.initial.out)
+
+abbrev pub decreases-loop-j : goal.decreases-loop-j
+decreases-loop-j l = l.n - l.j

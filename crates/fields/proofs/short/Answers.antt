@@ -1,0 +1,6 @@
+use Rattle.text_rules.proofs.Laying.{and_then}
+use borrow.Author.Rules.{rules}
+use Rattle.fields.proofs.short.Goals as goal
+
+pub returns : goal.returns
+returns c = and_then c.byte-e.ensures c.byte.ensures

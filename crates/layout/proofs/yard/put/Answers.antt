@@ -1,0 +1,25 @@
+use native.Mathlib.Omega.{arith}
+use mathlib.Core.Path.{refl}
+use borrow.Author.Tests.{le-leb, lt-leb}
+use Rattle.laws.proofs.Writes.{and_then, at_front}
+use Rattle.layout_rules.specs.Bytes.{yard_size, yard_bytes, yard_written}
+use Rattle.layout_rules.proofs.Widths.{yard_wide}
+use Rattle.layout.proofs.yard.put.Goals as goal
+
+pub returns-then-out-lt-YARD_SIZE : goal.returns-then-out-lt-YARD_SIZE
+unfolding yard_written
+returns-then-out-lt-YARD_SIZE c = rw (lt-leb yard_size _ c.if-out-lt-YARD_SIZE.true) record { value = refl; out_after = refl }
+
+pub returns : goal.returns
+unfolding yard_written yard_bytes
+returns c =
+    let y = c.args.y in
+    let room = c.if-out-lt-YARD_SIZE.false in
+    let number = c.base_number.ensures in
+    let index = c.base_index.ensures in
+    let base = rw (number, index) at c.put_pair.ensures in
+    let clock = c.put_two.ensures in
+    let front = and_then (and_then base clock) c.put_four.ensures in
+    let all = and_then front c.put_devices.ensures in
+    let written = at_front all (omega (arith, room, yard_wide y)) in
+    rw (le-leb yard_size _ room) record { value = written.0; out_after = written.1 }
