@@ -1,0 +1,49 @@
+use Prim.Native.Nat.{ℕ}
+use native.Mathlib.Omega.{arith}
+use mathlib.Core.Path.{◌≡◌}
+use mathlib.Core.List.{List}
+use lib.ListN.{length}
+use Rattle.laws.specs.Written.{Written}
+use Rattle.laws.proofs.Writes.{as_text, and_then}
+use Rattle.rules.specs.declared.Plan.{Plan}
+use Rattle.rules.specs.declared.Verdict.{Verdict}
+use Rattle.rules.specs.declared.Verdict.TheVariants.{Accepted}
+use Rattle.rules.proofs.Answers.{not_both}
+use Rattle.planfile_rules.specs.Writing.{body_bytes, body_written, file_bytes, write_verdict}
+use Rattle.planfile_rules.proofs.Written.{nothing_written, few_devices, has_room, all_written}
+use Rattle.bodies.proofs.Rooms.{ends_soon, is_written}
+use borrow.Author.Rules.{rules}
+use Rattle.planfile.proofs.write.Goals as goal
+
+-- The body has been written whole.
+module _ (p : Plan) (buffer : List ℕ) (v : Verdict) (said : v ≡ write_verdict p (length buffer)) (told : v ≡ Accepted) where
+  whole_body : (x : List ℕ) (end : ℕ) → Written buffer 0 (body_written p p.N (length buffer)) x end → Written buffer 0 (body_bytes p p.N) x end
+  whole_body x end w =
+      as_text _ w (is_written p.N (length buffer) (few_devices p buffer v said told) (omega (arith, has_room p buffer v said told)) p)
+
+pub returns-in_default : goal.returns-in_default
+returns-in_default c =
+    let args = c.args in
+    let told = c.in_default.is in
+    let none = nothing_written args.p args.file.now _ c.write_verdict-v.ensures told in
+    (none.0, (none.1, λ taken. not_both taken told))
+
+pub overflow_cast-p : goal.overflow_cast-p
+overflow_cast-p c =
+    let args = c.args in
+    omega (arith, few_devices args.p args.file.now _ c.write_verdict-v.ensures c.in-Accepted.is)
+
+pub overflow_add-result : goal.overflow_add-result
+overflow_add-result c =
+    omega (arith, ends_soon _ _ _ c.put_body-size.ensures.0)
+
+pub returns : goal.returns
+unfolding file_bytes
+returns c =
+    let args = c.args in
+    let said = c.write_verdict-v.ensures in
+    let told = c.in-Accepted.is in
+    let body = c.put_body-size.ensures in
+    let whole = whole_body args.p args.file.now _ said told _ _ body.0 in
+    let trailer = rw c.trailer_for.ensures at c.put_trailer.ensures in
+    all_written args.p args.file.now _ said told body.1 _ _ (and_then whole trailer)

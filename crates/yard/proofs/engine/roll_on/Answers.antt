@@ -1,0 +1,191 @@
+use Prim.Native.Nat.{ℕ, ◌+◌, ◌-◌, ◌≤◌, ◌<◌}
+use native.Mathlib.Omega.{arith}
+use mathlib.Core.Path.{◌≡◌, sym, ◌∙◌, ap}
+use mathlib.Core.Bool.{true, false}
+use mathlib.Core.List.{List, map}
+use lib.ListN.{length, length-map}
+use borrow.Author.Rules.{rules}
+use Rattle.rules.specs.declared.BaseMove.{BaseMove}
+use Rattle.rules.specs.declared.Device.{Device}
+use Rattle.rules.specs.declared.Letter.{Letter}
+use Rattle.rules.specs.declared.Plan.{Plan}
+use Rattle.rules.specs.declared.Record.{Record}
+use Rattle.rules.specs.declared.Terms.{Terms}
+use Rattle.rules.specs.declared.Yard.{Yard}
+use Rattle.rules.specs.Numbers.{base_index}
+use Rattle.rules.specs.Tick.Input.{down_lost}
+use Rattle.pace.specs.Pace.{reached_by}
+use Rattle.laws.specs.Bits.{bit}
+use Rattle.rules.specs.Tick.Step4.{arrived}
+use Rattle.yard.specs.Engaged.{device_at, byte_of}
+use Rattle.pace.proofs.Quiet.{paced}
+use Rattle.yard.proofs.Sweeps.{slot_at, sweep, delivered_by, sweep_length}
+use Rattle.yard.proofs.Ready.{ready}
+use Rattle.yard.proofs.Pass.{Pass, Passed, Come, leaves, hears, participant, without_command, initializer, stays, moves, next_passed, rebits}
+use Rattle.yard.proofs.Pass as pass
+use Rattle.yard.proofs.Arrives.{unreached, reaches, arrival_byte}
+use Rattle.yard.proofs.OneTick.{hearing, ticked, sends}
+use Rattle.yard.proofs.Loop.{Rolled, rolls}
+use Rattle.yard.proofs.Loop as loop
+use Rattle.yard.proofs.engine.roll_on.Invariants.{yard_of, pass_of}
+use Rattle.yard.proofs.engine.roll_on.Goals as goal
+use Rattle.yard.proofs.engine.roll_on.Goals.{in-NothingDue, in-Moves, in-NothingDue-pace, in-Moves-pace, then-to-ne0, else-to-ne0}
+
+pub terms_of-t-requires : goal.terms_of-t-requires
+terms_of-t-requires c =
+    (ready c.args.p c.args.y c.requires.sound.0 c.requires.sound.1).few
+
+pub engaged_byte-byte-requires : goal.engaged_byte-byte-requires
+engaged_byte-byte-requires c =
+    let fit = ready c.args.p c.args.y c.requires.sound.0 c.requires.sound.1 in
+    let names = ap (λ (t : Terms). t.N) c.terms_of-t.ensures in
+    omega (arith, c.index_of-last.ensures, fit.some, fit.few, names)
+
+pub loop-k-init : goal.loop-k-init
+loop-k-init c =
+    let a = c.args in
+    let fit = ready a.p a.y c.requires.sound.0 c.requires.sound.1 in
+    let names : c.terms_of-t.result.N ≡ a.p.N = ap (λ (t : Terms). t.N) c.terms_of-t.ensures in
+    let all : c.index_of-last.result + 1 ≡ a.p.N = omega (arith, c.index_of-last.ensures, fit.some, names) in
+    let eight : length a.y.devices ≡ 8 = search rules in
+    loop.starts a.p a.y a.roll.now a.engaged.now a.ticks _ c.requires.sound.0 c.requires.sound.1 _
+    eight all c.engaged_byte-byte.ensures
+
+pub loop-i-init : goal.loop-i-init
+loop-i-init c =
+    let inv = c.loop-k.invariant in
+    let n = inv.initializer in
+    pass.starts _ _ (omega (arith, n, inv.ready.few)) inv.eight inv.ready.clocks (inv.byte_is ∙ rw n)
+
+pub rebit-byte-requires : goal.rebit-byte-requires
+rebit-byte-requires c =
+    rebits c.loop-i.invariant c.rise-up.result.device
+
+pub loop-i-preserved : goal.loop-i-preserved
+loop-i-preserved c =
+    let here = c.loop-i in
+    let last : ℕ = c.index_of-last.result in
+    let r : Record = c.record_at-r.result in
+    let o : Pass = pass_of c.args.p r last c.own_index-own.result c.loop-k.devices in
+    let inv : Passed o here.i here.devices here.from_own here.byte = here.invariant in
+    let low : here.i < last = omega arith in
+    next_passed inv low
+    (elim c.match-pace.branch [
+      in-NothingDue w ↦
+          let still = rw w.in-NothingDue.is at (paced _ _ _ c.pace_of-pace.ensures) in
+          rw (w.devices-is, w.byte-is, w.from_own-is)
+          (stays inv (without_command o here.i low) c.row_of-row.ensures still).0
+    | in-Moves w ↦
+          rw (w.devices-is, w.byte-is, w.from_own-is ∙ w.listen-from_own.ensures)
+          (moves inv false 0 (participant o here.i low) w.rise-up.ensures w.rebit-byte.ensures).0
+    ])
+
+pub pace_of-pace-requires-in-loop-k : goal.pace_of-pace-requires-in-loop-k
+pace_of-pace-requires-in-loop-k c = c.loop-i.invariant.room
+
+pub rise-up-requires-in-Moves-pace : goal.rise-up-requires-in-Moves-pace
+rise-up-requires-in-Moves-pace c =
+    let done : c.loop-i.i ≡ c.index_of-last.result = omega arith in
+    rw done at c.loop-i.invariant.short
+
+pub rebit-byte-requires-in-Moves-pace : goal.rebit-byte-requires-in-Moves-pace
+rebit-byte-requires-in-Moves-pace c =
+    let out = c.loop-i-test.false in
+    let done : c.loop-i.i ≡ c.index_of-last.result = omega (arith, c.loop-i.invariant.within) in
+    rw done at (rebits c.loop-i.invariant c.rise-up-in-Moves-pace.result.device)
+
+pub bounds-devices-at : goal.bounds-devices-at
+bounds-devices-at c =
+    let names = ap (λ (t : Terms). t.N) c.terms_of-t.ensures in
+    let few = c.loop-k.invariant.ready.few in
+    let at = c.index_of-at.ensures in
+    let to = c.reached-to.ensures.1 in
+    omega arith
+
+pub bounds-devices-at-then-to-ne0 : goal.bounds-devices-at-then-to-ne0
+bounds-devices-at-then-to-ne0 c =
+    let names = ap (λ (t : Terms). t.N) c.terms_of-t.ensures in
+    let few = c.loop-k.invariant.ready.few in
+    let at = c.index_of-at.ensures in
+    let to = c.reached-to.ensures.1 in
+    omega arith
+
+pub bounds-engaged-k : goal.bounds-engaged-k
+bounds-engaged-k c =
+    let test = c.loop-k-test.true in
+    omega (arith, c.requires.ticks_in_bounds, c.loop-k.invariant.room)
+
+pub overflow_add-k : goal.overflow_add-k
+overflow_add-k c =
+    let test = c.loop-k-test.true in
+    omega (arith, c.ranges)
+
+pub loop-k-preserved : goal.loop-k-preserved
+loop-k-preserved c =
+    let a = c.args in
+    let p : Plan = a.p in
+    let here = c.loop-i in
+    let last : ℕ = c.index_of-last.result in
+    let r : Record = c.record_at-r.result in
+    let own : ℕ = c.own_index-own.result in
+    let own_is = c.own_index-own.ensures in
+    let y : Yard = yard_of c.loop-k.supervisor c.loop-k.devices in
+    let o : Pass = pass_of p r last own c.loop-k.devices in
+    let left : List Device = c.match-pace-2.devices in
+    let from_last : Letter = c.match-pace-2.from_last in
+    let from_own : Letter = c.match-pace-2.from_own in
+    let byte : ℕ = c.match-pace-2.byte in
+    let m : BaseMove = c.supervise-supervisor.result in
+    let to : ℕ = c.reached-to.result in
+    let fit = c.loop-k.invariant.ready in
+    let n : last + 1 ≡ p.N = c.loop-k.invariant.initializer in
+    let own_in : own ≤ last = omega (arith, own_is, n, fit.index, fit.some) in
+    let done : here.i ≡ last = omega (arith, here.invariant.within, c.loop-i-test.false) in
+    let inv : Passed o last here.devices here.from_own here.byte = rw done at here.invariant in
+    let come : Come o (last + 1) left from_own byte × (from_last ≡ hears o last) =
+    elim c.match-pace-2.branch [
+      in-NothingDue-pace w ↦
+          let still = rw w.in-NothingDue-pace.is at (paced _ _ _ c.pace_of-pace-in-loop-k.ensures) in
+          rw (w.devices-is, w.byte-is, w.from_own-is, w.from_last-is)
+          (stays inv (initializer o) c.row_of-row.ensures still)
+    | in-Moves-pace w ↦
+          let listened = w.from_own-is ∙ w.listen-from_own-in-Moves-pace.ensures in
+          rw (w.devices-is, w.byte-is, listened, w.from_last-is)
+          (moves inv true r.command (initializer o) w.rise-up-in-Moves-pace.ensures w.rebit-byte-in-Moves-pace.ensures)
+    ] in
+    let terms_are = c.terms_of-t.ensures in
+    let m_is : m ≡ hearing p y r from_last from_own = c.supervise-supervisor.ensures ∙ rw terms_are in
+    let eight : length left ≡ 8 = rw come.0.devices (sweep_length (leaves o) c.loop-k.devices (last + 1)) in
+    let to_is : to ≡ reached_by p.N (down_lost r) m.down = c.reached-to.ensures.0 ∙ rw terms_are in
+    let to_in : to ≤ p.N = rw terms_are at c.reached-to.ensures.1 in
+    let byte_left : byte ≡ byte_of p.N left = rw n at come.0.byte_is in
+    let end : (c.if-to-ne0.devices ≡ sweep p.N (delivered_by p.slots (down_lost r) r.willing m.down) left)
+    × (byte ≡ byte_of p.N c.if-to-ne0.devices) =
+    elim c.if-to-ne0.branch [
+      then-to-ne0 w ↦
+          let at = w.index_of-at.ensures in
+          let x : Device = w.arrive.result in
+          let x_is : x ≡ arrived (slot_at p.slots to) (bit r.willing (to - 1)) m.down to (device_at left to) =
+          w.arrive.ensures ∙ rw at in
+          rw (w.devices-is, at) (
+            reaches p.slots (down_lost r) r.willing m.down p.N to left eight to_is x w.if-to-ne0.true fit.few x_is,
+            byte_left ∙ sym (arrival_byte p.N to left _ _ m.down x eight (omega (arith, w.if-to-ne0.true)) to_in fit.few x_is),
+          )
+    | else-to-ne0 w ↦
+          rw w.devices-is
+          (unreached p.slots (down_lost r) r.willing m.down p.N to left eight to_is w.if-to-ne0.false, byte_left)
+    ] in
+    let yard = ticked p y r last own n own_is own_in left _ _ _ byte m come.0 come.1 m_is end.0 in
+    let down = sends p y r last own n own_is own_in left _ _ _ byte m come.0 come.1 m_is end.0 in
+    rolls p a.y a.roll.now a.engaged.now a.ticks last c.requires.sound.0 c.requires.sound.1 _ y _ _ _ _ _ byte r
+    c.loop-k.invariant c.loop-k-test.true c.requires.ticks_in_bounds c.record_at-r.ensures yard down end.1
+
+pub shape_of-engaged : goal.shape_of-engaged
+shape_of-engaged c = c.loop-k.invariant.room
+
+pub returns : goal.returns
+returns c =
+    let inv = c.loop-k.invariant in
+    let ticks : ℕ = c.args.ticks in
+    let all : c.loop-k.k ≡ ticks = omega (arith, c.loop-k-test.false, inv.within) in
+    record { yard_after = (rw all at inv.yard, rw all at inv.down); engaged_after = rw all at inv.bytes }

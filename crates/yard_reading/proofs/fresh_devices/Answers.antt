@@ -1,0 +1,5 @@
+use borrow.Author.Rules.{rules}
+use Rattle.yard_reading.proofs.fresh_devices.Goals as goal
+
+pub returns : goal.returns
+returns c = rw c.fresh_device.ensures
