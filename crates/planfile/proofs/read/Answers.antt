@@ -17,7 +17,10 @@ returns-in_default c =
     let told = c.in_default.is in
     let same : c.answer.result ≡ read_answer file =
     c.answer.ensures ∙ rw c.empty_plan.ensures (trailer_refused file found.result said.result found.ensures said.ensures told) in
-    (same, λ taken. not_both taken (ap (λ (a : ReadAnswer). a.verdict) c.answer.ensures ∙ told))
+    record {
+      value = same;
+      written_back = λ taken. not_both taken (ap (λ (a : ReadAnswer). a.verdict) c.answer.ensures ∙ told);
+    }
 
 pub overflow_sub-start : goal.overflow_sub-start
 overflow_sub-start c =
@@ -54,4 +57,4 @@ returns c =
     let devices = c.devices_for in
     let same : c.read_body.result ≡ read_answer file =
     c.read_body.ensures ∙ taken devices.result devices.ensures _ refl in
-    (same, given_back_of file _ same c.shared_slice_known-1.given)
+    record { value = same; written_back = given_back_of file _ same c.type_inv.file }

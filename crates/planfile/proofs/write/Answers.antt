@@ -26,7 +26,7 @@ returns-in_default c =
     let args = c.args in
     let told = c.in_default.is in
     let none = nothing_written args.p args.file.now _ c.write_verdict-v.ensures told in
-    (none.0, (none.1, λ taken. not_both taken told))
+    record { value = none.0; file_after = none.1; read_as = λ taken. not_both taken told }
 
 pub overflow_cast-p : goal.overflow_cast-p
 overflow_cast-p c =
@@ -35,7 +35,7 @@ overflow_cast-p c =
 
 pub overflow_add-result : goal.overflow_add-result
 overflow_add-result c =
-    omega (arith, ends_soon _ _ _ c.put_body-size.ensures.0)
+    omega (arith, ends_soon _ _ _ c.put_body-size.ensures.written)
 
 pub returns : goal.returns
 unfolding file_bytes
@@ -44,6 +44,7 @@ returns c =
     let said = c.write_verdict-v.ensures in
     let told = c.in-Accepted.is in
     let body = c.put_body-size.ensures in
-    let whole = whole_body args.p args.file.now _ said told _ _ body.0 in
+    let whole = whole_body args.p args.file.now _ said told _ _ body.written in
     let trailer = rw c.trailer_for.ensures at c.put_trailer.ensures in
-    all_written args.p args.file.now _ said told body.1 _ _ (and_then whole trailer)
+    let all = all_written args.p args.file.now _ said told body.eight_slots _ _ (and_then whole trailer) in
+    record { value = all.0; file_after = all.1.0; read_as = all.1.1 }
