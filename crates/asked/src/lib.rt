@@ -65,7 +65,7 @@ pub fn run_for(
 ) -> RunAnswer
     ensures value { result ≡ run_for plan.now bytes.now roll.now budget engaged.old }
     ensures engaged_after { engaged.new ≡ engaged_for plan.now bytes.now roll.now budget engaged.old }
-    ensures kept_by { KeptBy plan.now bytes.now engaged.new result.ticks }
+    ensures kept { KeptBy plan.now bytes.now engaged.new result.ticks }
 {
     let p = bodies::whole_plan(plan);
     let yard = yard_reading::read(bytes);
