@@ -1,0 +1,18 @@
+use mathlib.Core.Path.{sym, ◌∙◌, ap}
+use lib.ListN.{length}
+use Rattle.planfile_rules.specs.declared.ReadAnswer.{ReadAnswer}
+use Rattle.exports_rules.proofs.Lengths.{read_sized}
+use borrow.Author.Rules.{rules}
+use Rattle.exports.proofs.wilatkhun_read.Goals as goal
+
+pub keep_plan-requires : goal.keep_plan-requires
+keep_plan-requires c h =
+    let args = c.args in
+    let told = ap (λ (a : ReadAnswer). a.verdict) c.read_for-a.ensures in
+    read_sized args.file.now (length args.plan.now) (sym told ∙ h)
+
+pub returns : goal.returns
+returns c =
+    let told = c.read_for-a.ensures in
+    let kept = c.keep_plan.ensures in
+    record { answer = rw told at c.answer.ensures; bytes = rw told at kept }
