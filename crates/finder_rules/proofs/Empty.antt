@@ -1,5 +1,5 @@
 -- The empty part at the roll's end means that nothing is at fault, and only that.
-use Prim.Native.Nat.{ℕ, ◌+◌, ◌-◌, ◌%◌}
+use Prim.Native.Nat.{ℕ, ◌+◌}
 use native.Mathlib.Omega.{arith}
 use mathlib.Core.Path.{◌≡◌, refl, ap}
 use mathlib.Core.Bool.{not}

@@ -1,7 +1,7 @@
 -- A yard's bytes that are not malformed are given back.
-use Prim.Native.Nat.{ℕ, zero, suc, ◌+◌, ◌-◌, ◌≤◌, ◌<◌}
+use Prim.Native.Nat.{ℕ, ◌+◌, ◌-◌, ◌≤◌, ◌<◌}
 use native.Mathlib.Omega.{arith}
-use mathlib.Core.Path.{◌≡◌, refl, ◌∙◌, ap}
+use mathlib.Core.Path.{◌≡◌, ◌∙◌, ap}
 use mathlib.Core.List.{List, [], ◌∷◌, ◌++◌}
 use lib.Dec.{leb}
 use lib.ListN.{length, take, drop, get_or}
@@ -16,7 +16,7 @@ use Rattle.rules.specs.Yard.{fresh_device}
 use Rattle.rules.specs.Numbers.{base_number, base_index, base_of}
 use Rattle.layout_rules.specs.Bytes.{device_bytes, devices_bytes, yard_bytes, yard_size, device_start}
 use Rattle.layout_rules.specs.Reading.{base_byte, index_byte, place_byte, letter_byte, device_in, yard_in, yard_of}
-use Rattle.layout_rules.specs.Theorems.{Malformed, too_few, no_base, fall_back_with, no_place, no_letter, BytesBack}
+use Rattle.layout_rules.specs.Theorems.{Malformed, no_base, fall_back_with, no_place, no_letter, BytesBack}
 use Rattle.layout_rules.proofs.Numbers.{place_again, letter_again, base_again}
 use Rattle.layout_rules.proofs.Forms.{Readable, is_readable}
 

@@ -1,18 +1,18 @@
 -- A reader that comes through a device's line.
-use Prim.Native.Nat.{ℕ, zero, suc, ◌+◌, ◌-◌, ◌^◌, ◌≤◌, ◌<◌, min}
+use Prim.Native.Nat.{ℕ, suc, ◌+◌, ◌-◌, ◌≤◌, ◌<◌, min}
 use native.Mathlib.Omega.{arith}
 use native.Mathlib.Nat.{min-eq_left}
-use mathlib.Core.Path.{◌≡◌, refl, sym, ◌∙◌, ap}
-use mathlib.Core.Bool.{Bool, true, false, cond}
-use mathlib.Core.List.{List, [], ◌∷◌, ◌++◌}
-use lib.Dec.{leb, ltb, eqb}
+use mathlib.Core.Path.{◌≡◌, refl, ◌∙◌, ap}
+use mathlib.Core.Bool.{true, false}
+use mathlib.Core.List.{List, [], ◌∷◌}
+use lib.Dec.{eqb}
 use lib.ListN.{length, get_or, set}
 use lib.Seq.{get_or-set_same, set-set}
 use borrow.Author.Tests.{ne_eqb, eq-eqb, le-leb}
 use Rattle.rules.specs.declared.Plan.{Plan}
 use Rattle.rules.specs.declared.Slot.{Slot}
 use Rattle.rules.specs.Plan.{empty_slot}
-use Rattle.text_rules.specs.Decimal.{digit, decimal}
+use Rattle.text_rules.specs.Decimal.{decimal}
 use Rattle.plantext_rules.specs.declared.Stand.TheVariants as stand
 use Rattle.plantext_rules.specs.declared.Reader.{Reader}
 use Rattle.plantext_rules.specs.Text.{field_text, together, line_feed}

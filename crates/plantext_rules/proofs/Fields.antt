@@ -1,21 +1,19 @@
 -- A reader that comes through the fields of a line, and to its end.
-use Prim.Native.Nat.{ℕ, zero, suc, ◌+◌, ◌-◌, ◌^◌, ◌≤◌, ◌<◌}
+use Prim.Native.Nat.{ℕ, ◌+◌, ◌-◌, ◌^◌, ◌<◌}
 use native.Mathlib.Omega.{arith}
-use mathlib.Core.Path.{◌≡◌, refl, sym, ◌∙◌, ap}
+use mathlib.Core.Path.{◌≡◌, refl, ◌∙◌, ap}
 use mathlib.Core.Bool.{true, false}
-use mathlib.Core.List.{List, [], ◌∷◌, ◌++◌}
-use lib.Dec.{leb, ltb, eqb}
+use mathlib.Core.List.{◌∷◌}
 use lib.ListN.{length}
 use borrow.Author.Tests.{ne_eqb, eq-eqb, le-leb}
 use Rattle.rules.specs.declared.Plan.{Plan}
-use Rattle.text_rules.specs.Decimal.{digit, decimal}
+use Rattle.text_rules.specs.Decimal.{decimal}
 use Rattle.plantext_rules.specs.declared.Stand.{Stand}
 use Rattle.plantext_rules.specs.declared.Stand.TheVariants as stand
-use Rattle.plantext_rules.specs.declared.Cursor.{Cursor}
 use Rattle.plantext_rules.specs.declared.Reader.{Reader}
 use Rattle.plantext_rules.specs.Text.{field_text}
-use Rattle.plantext_rules.specs.Reading.{is_blank, letter_of, first_field, complete, owned, line_ends, field_ends, field_starts, line_starts, two_bytes_of, with_number, with_yard_number, with_device_number, reads, read_on}
-use Rattle.plantext_rules.proofs.Numbers.{read_append, in_number, Begins, number_read}
+use Rattle.plantext_rules.specs.Reading.{is_blank, letter_of, owned, field_ends, field_starts, two_bytes_of, with_number, reads, read_on}
+use Rattle.plantext_rules.proofs.Numbers.{in_number, Begins, number_read}
 
 abbrev pub reader : Stand → ℕ → ℕ → ℕ → ℕ → ℕ → Plan → Reader
 reader s line device field digits value p = record {

@@ -1,24 +1,20 @@
 -- A reader that comes through the yard's line and a device's.
-use Prim.Native.Nat.{ℕ, zero, suc, ◌+◌, ◌-◌, ◌^◌, ◌≤◌, ◌<◌, min}
+use Prim.Native.Nat.{ℕ, ◌+◌, ◌^◌, ◌≤◌, ◌<◌}
 use native.Mathlib.Omega.{arith}
 use native.Mathlib.Nat.{min-eq_left}
-use mathlib.Core.Path.{◌≡◌, refl, sym, ◌∙◌, ap}
+use mathlib.Core.Path.{◌≡◌, refl, ◌∙◌, ap}
 use mathlib.Core.Bool.{true, false}
 use mathlib.Core.List.{List, [], ◌∷◌, ◌++◌}
-use lib.Dec.{leb, ltb, eqb}
-use lib.ListN.{length, get_or, set}
-use lib.Seq.{get_or-set_same, set-set}
-use borrow.Author.Tests.{ne_eqb, eq-eqb, le-leb}
+use lib.Dec.{eqb}
+use lib.ListN.{length}
 use Rattle.rules.specs.declared.Plan.{Plan}
-use Rattle.rules.specs.declared.Slot.{Slot}
-use Rattle.rules.specs.Plan.{empty_slot, slot}
 use Rattle.planfile_rules.specs.File.{empty_plan}
-use Rattle.text_rules.specs.Decimal.{digit, decimal}
+use Rattle.text_rules.specs.Decimal.{decimal}
 use Rattle.plantext_rules.specs.declared.Stand.TheVariants as stand
 use Rattle.plantext_rules.specs.declared.Reader.{Reader}
-use Rattle.plantext_rules.specs.Text.{field_text, together, line_feed, yard_text, device_text}
-use Rattle.plantext_rules.specs.Reading.{letter_of, first_field, complete, owned, line_ends, field_ends, field_starts, line_starts, two_bytes_of, with_time, with_number, with_yard_number, with_device_number, reads, read_on, from_start}
-use Rattle.plantext_rules.proofs.Numbers.{read_append, in_number, Begins, number_read}
+use Rattle.plantext_rules.specs.Text.{field_text, together, line_feed, yard_text}
+use Rattle.plantext_rules.specs.Reading.{letter_of, first_field, complete, owned, line_ends, field_ends, field_starts, line_starts, with_number, with_yard_number, with_device_number, reads, read_on, from_start}
+use Rattle.plantext_rules.proofs.Numbers.{read_append, in_number, number_read}
 use Rattle.plantext_rules.proofs.Fields.{reader, kept, after_letter, field_read}
 
 -- A text, and another behind it.

@@ -4,15 +4,12 @@ use native.Mathlib.Omega.{arith}
 use native.Mathlib.Nat.{div-lt_iff_lt-mul, pow-suc}
 use mathlib.Core.Path.{◌≡◌, refl, ◌∙◌, ap}
 use mathlib.Core.List.{List, [], ◌∷◌, ◌++◌}
-use lib.Dec.{leb, ltb}
 use lib.ListN.{length, length-append}
 use borrow.Author.Tests.{lt-ltb, le-leb}
 use Rattle.rules.specs.declared.Plan.{Plan}
 use Rattle.text_rules.specs.Decimal.{digit, decimal}
 use Rattle.text_rules.proofs.Decimals.{one_digit, last_digit, digits_few, digit_by_digit}
-use Rattle.plantext_rules.specs.declared.Stand.{Stand}
 use Rattle.plantext_rules.specs.declared.Stand.TheVariants as stand
-use Rattle.plantext_rules.specs.declared.Cursor.{Cursor}
 use Rattle.plantext_rules.specs.declared.Reader.{Reader}
 use Rattle.plantext_rules.specs.Reading.{reads, read_on}
 

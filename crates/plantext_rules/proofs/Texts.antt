@@ -1,18 +1,16 @@
 -- The text of an accepted plan is read back as that plan.
-use Prim.Native.Nat.{ℕ, zero, suc, ◌+◌, ◌-◌, ◌≤◌, ◌<◌}
+use Prim.Native.Nat.{ℕ, zero, suc, ◌+◌, ◌≤◌, ◌<◌}
 use native.Mathlib.Omega.{arith}
 use mathlib.Core.Path.{◌≡◌, refl, sym, ◌∙◌, ap}
-use mathlib.Core.Bool.{Bool, true, false, cond}
-use mathlib.Core.List.{List, [], ◌∷◌, ◌++◌}
-use lib.Dec.{leb, ltb, eqb}
-use lib.ListN.{length, get_or, set}
-use borrow.Author.Tests.{ne_eqb, eq-eqb, le-leb, lt-leb, eqb-true, eqb-false, leb-false}
-use Rattle.laws.specs.Lists.{tabulate, swept, joined}
+use mathlib.Core.List.{List}
+use lib.Dec.{leb, eqb}
+use lib.ListN.{length, get_or}
+use borrow.Author.Tests.{ne_eqb, lt-leb, eqb-true, leb-false}
+use Rattle.laws.specs.Lists.{swept, joined}
 use Rattle.laws.proofs.Lists.{tabulate_same, tabulate_back, swept_length, swept_none, swept_rest, swept_next}
 use Rattle.laws.proofs.Tests.{case, tests}
 use Rattle.rules.specs.declared.Plan.{Plan}
 use Rattle.rules.specs.declared.Slot.{Slot}
-use Rattle.rules.specs.declared.Verdict.TheVariants.{Accepted}
 use Rattle.rules.specs.Plan.{empty_slot, slot}
 use Rattle.rules.specs.Theorems.{Accepts, Time}
 use Rattle.rules.proofs.Plans.Accepted.{accepted_exactly}

@@ -1,5 +1,5 @@
 -- A plan as text: one line for the yard and one for each device, in document 01's letters.
-use Rattle.std.specs.Prelude.{ℕ, ◌+◌, cond, List, [], ◌∷◌, ◌++◌, eqb}
+use Rattle.std.specs.Prelude.{ℕ, cond, List, [], ◌∷◌, ◌++◌, eqb}
 use Rattle.laws.specs.Lists.{joined}
 use Rattle.text_rules.specs.Decimal.{decimal}
 use Rattle.rules.specs.declared.Plan.{Plan}

@@ -1,6 +1,6 @@
 -- Texts and what they are read as: plan P's, and one for each sentence of the grammar (docs/TEXT.md). The characters stand
 -- beside each text.
-use Rattle.std.specs.Prelude.{ℕ, List, [], ◌∷◌, map}
+use Rattle.std.specs.Prelude.{ℕ, List, [], ◌∷◌}
 use Rattle.rules.specs.declared.Verdict.{Verdict}
 use Rattle.rules.specs.declared.Verdict.TheVariants.{Accepted, Refused}
 use Rattle.plantext_rules.specs.Reading.{text_answer}

@@ -1,6 +1,4 @@
 -- Places, letters and bases are had back from their numbers, and numbers from what they stand for.
-use Prim.Native.Nat.{ℕ, zero, suc, ◌≤◌}
-use native.Mathlib.Omega.{arith}
 use mathlib.Core.Path.{◌≡◌, refl}
 use Rattle.rules.specs.declared.Base.{Base}
 use Rattle.rules.specs.declared.Base.TheVariants as base

@@ -1,12 +1,12 @@
 -- Step 4 reaches one device or none, and moves none into or out of being engaged.
-use Prim.Native.Nat.{ℕ, ◌+◌, ◌-◌, ◌≤◌, ◌<◌}
+use Prim.Native.Nat.{ℕ, ◌-◌, ◌≤◌}
 use native.Mathlib.Omega.{arith}
 use mathlib.Core.Path.{◌≡◌, refl, sym, ◌∙◌, ap}
-use mathlib.Core.Bool.{Bool, true, false, cond}
+use mathlib.Core.Bool.{Bool, true}
 use mathlib.Core.List.{List}
 use lib.Dec.{eqb, leb}
 use lib.ListN.{length, set}
-use borrow.Author.Tests.{eqb-true, eqb-false, le-leb, leb-true, ne_eqb}
+use borrow.Author.Tests.{le-leb, leb-true, ne_eqb}
 use Rattle.laws.specs.Bits.{bit}
 use Rattle.laws.proofs.Tests.{case}
 use Rattle.rules.specs.Numbers.{down_index}
@@ -14,11 +14,10 @@ use Rattle.rules.specs.declared.Slot.{Slot}
 use Rattle.rules.specs.declared.Place.{Place}
 use Rattle.rules.specs.declared.Place.TheVariants as place
 use Rattle.rules.specs.declared.Letter.{Letter}
-use Rattle.rules.specs.declared.Letter.TheVariants as letter
 use Rattle.rules.specs.declared.Down.{Down}
 use Rattle.rules.specs.declared.Down.TheVariants as down
 use Rattle.rules.specs.declared.Device.{Device}
-use Rattle.rules.specs.Yard.{at, writes, engaged}
+use Rattle.rules.specs.Yard.{at, engaged}
 use Rattle.rules.specs.Tick.Step4.{hear_lease_req, hear_grant, hear_cancel, arrived}
 use Rattle.pace.specs.Pace.{reached_by}
 use Rattle.yard.specs.Engaged.{device_at, byte_of}

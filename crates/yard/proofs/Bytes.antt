@@ -9,7 +9,7 @@ use lib.Dec.{eqb}
 use lib.ListN.{length, get_or, set}
 use lib.Pow.{pow_mono}
 use lib.Seq.{get_or-set_same, get_or-set_other}
-use borrow.Author.Tests.{eqb-true, eqb-false}
+use borrow.Author.Tests.{eqb-true}
 use Rattle.laws.specs.Bits.{of_bits}
 use Rattle.laws.proofs.Bits.{of_bits_below, of_bits_same}
 use Rattle.laws.proofs.Tests.{case, tests}

@@ -1,7 +1,6 @@
 use mathlib.Core.Path.{sym, ◌∙◌}
 use Rattle.rules.specs.Yard.{fresh_answer}
 use Rattle.exports_rules.specs.Asked.{fresh_for}
-use borrow.Author.Rules.{rules}
 use Rattle.asked.proofs.fresh_for.Goals as goal
 
 pub returns-in_default : goal.returns-in_default

@@ -1,6 +1,5 @@
 use mathlib.Core.Path.{refl, sym, ◌∙◌}
 use Rattle.exports_rules.specs.Asked.{list_for, text_for}
-use borrow.Author.Rules.{rules}
 use Rattle.asked.proofs.list_for.Goals as goal
 
 pub returns-in_default : goal.returns-in_default

@@ -1,6 +1,5 @@
 use mathlib.Core.Path.{sym, ◌∙◌}
 use Rattle.exports_rules.specs.Asked.{read_for}
-use borrow.Author.Rules.{rules}
 use Rattle.asked.proofs.read_for.Goals as goal
 
 pub returns-in_default : goal.returns-in_default

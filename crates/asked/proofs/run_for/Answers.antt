@@ -1,7 +1,6 @@
 use mathlib.Core.Path.{refl, sym, ◌∙◌}
 use Rattle.exports_rules.proofs.Sizes.{nothing_done}
 use Rattle.exports_rules.specs.Asked.{run_for, engaged_for}
-use borrow.Author.Rules.{rules}
 use Rattle.asked.proofs.run_for.Goals as goal
 
 pub returns-in_default : goal.returns-in_default

@@ -1,6 +1,5 @@
 use mathlib.Core.Path.{sym, ◌∙◌}
 use Rattle.exports_rules.specs.Asked.{tick_for}
-use borrow.Author.Rules.{rules}
 use Rattle.asked.proofs.tick_for.Goals as goal
 
 pub returns-in_default : goal.returns-in_default

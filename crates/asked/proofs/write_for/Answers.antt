@@ -1,7 +1,6 @@
 use mathlib.Core.Path.{refl, sym, ◌∙◌}
 use Rattle.rules.proofs.Answers.{not_both}
 use Rattle.exports_rules.specs.Asked.{write_for, file_for}
-use borrow.Author.Rules.{rules}
 use Rattle.asked.proofs.write_for.Goals as goal
 
 pub returns-in_default : goal.returns-in_default

@@ -1,6 +1,5 @@
 use mathlib.Core.Path.{sym, ◌∙◌}
 use Rattle.rules.specs.Tick.Step3.{aborting}
-use borrow.Author.Rules.{rules}
 use Rattle.base.proofs.aborting.Goals as goal
 
 pub returns-then-same_letter : goal.returns-then-same_letter

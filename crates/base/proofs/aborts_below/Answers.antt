@@ -1,5 +1,4 @@
 use borrow.Author.Tests.{eq-eqb, ne_eqb}
-use borrow.Author.Rules.{rules}
 use Rattle.base.proofs.aborts_below.Goals as goal
 
 pub returns-then-i-eq1 : goal.returns-then-i-eq1

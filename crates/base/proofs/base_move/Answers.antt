@@ -1,6 +1,5 @@
 use borrow.Author.Tests.{eq-eqb, ne_eqb}
 use Rattle.rules.specs.Tick.Step3.{base_move}
-use borrow.Author.Rules.{rules}
 use Rattle.base.proofs.base_move.Goals as goal
 
 pub returns-in-FallBack : goal.returns-in-FallBack

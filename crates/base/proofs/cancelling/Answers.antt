@@ -1,6 +1,5 @@
 use mathlib.Core.Path.{sym, ◌∙◌}
 use Rattle.rules.specs.Tick.Step3.{cancelling}
-use borrow.Author.Rules.{rules}
 use Rattle.base.proofs.cancelling.Goals as goal
 
 pub returns-then-same_letter : goal.returns-then-same_letter

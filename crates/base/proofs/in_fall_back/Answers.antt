@@ -1,5 +1,4 @@
 use Rattle.rules.specs.Tick.Step3.{in_fall_back}
-use borrow.Author.Rules.{rules}
 use Rattle.base.proofs.in_fall_back.Goals as goal
 
 pub returns-then-same_letter-clock : goal.returns-then-same_letter-clock

@@ -1,7 +1,6 @@
 use borrow.Author.Tests.{eq-eqb, ne_eqb}
 use mathlib.Core.Path.{sym, ◌∙◌}
 use Rattle.rules.specs.Tick.Step3.{in_lease}
-use borrow.Author.Rules.{rules}
 use Rattle.base.proofs.in_lease.Goals as goal
 
 pub returns-then-not-approved : goal.returns-then-not-approved

@@ -1,6 +1,5 @@
 use mathlib.Core.Path.{sym, ◌∙◌}
 use Rattle.rules.specs.Tick.Step3.{in_lease_n}
-use borrow.Author.Rules.{rules}
 use Rattle.base.proofs.in_lease_n.Goals as goal
 
 pub returns-then-same_letter : goal.returns-then-same_letter

@@ -1,5 +1,4 @@
 use borrow.Author.Tests.{eq-eqb, ne_eqb}
-use borrow.Author.Rules.{rules}
 use Rattle.base.proofs.leases.Goals as goal
 
 pub returns-then-next-t : goal.returns-then-next-t

@@ -1,6 +1,5 @@
 use borrow.Author.Tests.{le-ltb, lt-ltb}
 use Rattle.rules.specs.Tick.Step3.{leasing}
-use borrow.Author.Rules.{rules}
 use Rattle.base.proofs.leasing.Goals as goal
 
 pub returns-then-i-t : goal.returns-then-i-t

@@ -1,4 +1,3 @@
-use borrow.Author.Rules.{rules}
 use Rattle.base.proofs.same_letter.Goals as goal
 
 pub returns : goal.returns

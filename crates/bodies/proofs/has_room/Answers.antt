@@ -1,4 +1,3 @@
-use borrow.Author.Rules.{rules}
 use Rattle.bodies.proofs.Rooms.{too_many, few}
 use Rattle.bodies.proofs.has_room.Goals as goal
 

@@ -1,5 +1,4 @@
 use Rattle.planfile_rules.specs.File.{plan_in}
-use borrow.Author.Rules.{rules}
 use Rattle.bodies.proofs.held_plan.Goals as goal
 
 pub returns : goal.returns

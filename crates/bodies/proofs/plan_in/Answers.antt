@@ -1,6 +1,5 @@
 use mathlib.Core.Path.{sym, ◌∙◌}
 use Rattle.planfile_rules.specs.File.{plan_for}
-use borrow.Author.Rules.{rules}
 use Rattle.bodies.proofs.Rooms.{enough}
 use Rattle.bodies.proofs.plan_in.Goals as goal
 

@@ -1,9 +1,8 @@
 use native.Mathlib.Omega.{arith}
 use mathlib.Core.Path.{sym, ◌∙◌}
-use lib.ListN.{length, length-map}
+use lib.ListN.{length}
 use Rattle.laws.proofs.Writes.{nothing}
 use Rattle.planfile_rules.specs.Writing.{body_written}
-use borrow.Author.Rules.{rules}
 use Rattle.bodies.proofs.Rooms.{enough}
 use Rattle.bodies.proofs.put_body.Goals as goal
 

@@ -1,6 +1,5 @@
 use Rattle.laws.proofs.Writes.{and_then}
 use Rattle.planfile_rules.specs.Writing.{body_bytes}
-use borrow.Author.Rules.{rules}
 use Rattle.bodies.proofs.put_held.Goals as goal
 
 pub returns : goal.returns

@@ -1,10 +1,8 @@
-use Prim.Native.Nat.{◌+◌, ◌-◌, ◌*◌, ◌≤◌}
+use Prim.Native.Nat.{◌+◌, ◌*◌, ◌≤◌}
 use native.Mathlib.Omega.{arith}
 use mathlib.Core.Path.{◌≡◌, refl}
 use lib.ListN.{length, get_or}
 use borrow.Author.Rules.{rules}
-use Rattle.laws.specs.Lists.{joined}
-use Rattle.laws.specs.Written.{Written}
 use Rattle.laws.proofs.Writes.{no_piece, next_member, length_kept, as_end, into_part}
 use Rattle.rules.specs.Plan.{empty_slot}
 use Rattle.planfile_rules.specs.Writing.{slot_bytes}

@@ -1,14 +1,10 @@
 use Prim.Native.Nat.{◌+◌, ◌-◌, ◌*◌, ◌≤◌}
-use native.Mathlib.Omega.{arith}
-use mathlib.Core.Path.{◌≡◌, refl}
+use mathlib.Core.Path.{◌≡◌}
 use lib.ListN.{length, get_or}
-use borrow.Author.Rules.{rules}
 use Rattle.laws.specs.Lists.{joined}
 use Rattle.laws.specs.Written.{Written}
-use Rattle.laws.proofs.Writes.{no_piece, next_member, length_kept, as_end, into_part}
 use Rattle.rules.specs.Plan.{empty_slot}
 use Rattle.planfile_rules.specs.Writing.{slot_bytes}
-use Rattle.planfile_rules.proofs.Bodies.{slot_wide}
 use Rattle.bodies.proofs.put_slots.Given as goal
 
 abbrev pub invariant-loop-j : goal.invariant-loop-j

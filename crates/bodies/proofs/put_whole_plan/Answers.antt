@@ -1,6 +1,5 @@
 use Rattle.laws.proofs.Writes.{at_front}
 use Rattle.planfile_rules.specs.Writing.{body_written, plan_written}
-use borrow.Author.Rules.{rules}
 use Rattle.bodies.proofs.Rooms.{within}
 use Rattle.bodies.proofs.put_whole_plan.Goals as goal
 

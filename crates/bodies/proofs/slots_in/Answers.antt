@@ -1,8 +1,7 @@
-use Prim.Native.Nat.{◌+◌, ◌-◌, ◌*◌, ◌≤◌}
+use Prim.Native.Nat.{◌+◌, ◌*◌}
 use native.Mathlib.Omega.{arith}
 use mathlib.Core.Path.{◌≡◌, ◌∙◌}
 use borrow.Author.Rules.{rules}
-use Rattle.planfile_rules.specs.File.{slots_in}
 use Rattle.planfile_rules.proofs.Slots.{none_read, slot_part, next_read}
 use Rattle.bodies.proofs.slots_in.Goals as goal
 

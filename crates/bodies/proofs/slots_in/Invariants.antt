@@ -1,9 +1,6 @@
-use Prim.Native.Nat.{◌+◌, ◌-◌, ◌*◌, ◌≤◌}
-use native.Mathlib.Omega.{arith}
-use mathlib.Core.Path.{◌≡◌, ◌∙◌}
-use borrow.Author.Rules.{rules}
+use Prim.Native.Nat.{◌-◌, ◌≤◌}
+use mathlib.Core.Path.{◌≡◌}
 use Rattle.planfile_rules.specs.File.{slots_in}
-use Rattle.planfile_rules.proofs.Slots.{none_read, slot_part, next_read}
 use Rattle.bodies.proofs.slots_in.Given as goal
 
 abbrev pub invariant-loop-k : goal.invariant-loop-k

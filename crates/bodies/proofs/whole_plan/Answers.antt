@@ -1,6 +1,5 @@
 use Rattle.planfile_rules.specs.File.{plan_for, whole_plan}
-use borrow.Author.Tests.{eq-eqb, ne_eqb}
-use borrow.Author.Rules.{rules}
+use borrow.Author.Tests.{ne_eqb}
 use Rattle.bodies.proofs.whole_plan.Goals as goal
 
 pub returns-then-bytes-ne-PLAN_SIZE : goal.returns-then-bytes-ne-PLAN_SIZE

@@ -1,7 +1,6 @@
 use Prim.Native.Nat.{◌*◌, ◌≤◌}
 use native.Mathlib.Omega.{arith}
 use native.Mathlib.Nat.{mul-le-mul}
-use borrow.Author.Rules.{rules}
 use Rattle.conditions.proofs.c4.Goals as goal
 
 pub overflow_add-result : goal.overflow_add-result

@@ -1,5 +1,4 @@
 use Rattle.conditions.specs.Lines.{last_line}
-use borrow.Author.Rules.{rules}
 use Rattle.conditions.proofs.last_line.Goals as goal
 
 pub returns-then-not-device_times : goal.returns-then-not-device_times

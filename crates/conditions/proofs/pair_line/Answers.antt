@@ -1,5 +1,4 @@
 use Rattle.conditions.specs.Lines.{pair_line}
-use borrow.Author.Rules.{rules}
 use Rattle.conditions.proofs.pair_line.Goals as goal
 
 pub returns-then-not-device_times-pair_times : goal.returns-then-not-device_times-pair_times

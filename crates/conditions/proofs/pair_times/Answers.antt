@@ -1,4 +1,3 @@
-use borrow.Author.Rules.{rules}
 use Rattle.conditions.proofs.pair_times.Goals as goal
 
 pub returns : goal.returns

@@ -1,7 +1,6 @@
 use native.Mathlib.Omega.{arith}
 use native.Mathlib.Nat.{mul-le-mul}
 use mir.Facts.{Fits-le, Fits-lit}
-use borrow.Author.Rules.{rules}
 use Rattle.conditions.proofs.product.Goals as goal
 
 pub overflow_mul-result : goal.overflow_mul-result

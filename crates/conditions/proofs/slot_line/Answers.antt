@@ -1,7 +1,5 @@
-use Prim.Native.Nat.{◌+◌}
 use borrow.Author.Tests.{eq-eqb, le-ltb, lt-ltb, ne_eqb}
 use Rattle.conditions.specs.Lines.{slot_line}
-use borrow.Author.Rules.{rules}
 use Rattle.conditions.proofs.slot_line.Goals as goal
 
 pub returns-then-i-n : goal.returns-then-i-n

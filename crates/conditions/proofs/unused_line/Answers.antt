@@ -1,5 +1,4 @@
 use Rattle.conditions.specs.Lines.{unused_line}
-use borrow.Author.Rules.{rules}
 use Rattle.conditions.proofs.unused_line.Goals as goal
 
 pub returns-then-not-all_zero : goal.returns-then-not-all_zero

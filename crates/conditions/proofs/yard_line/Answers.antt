@@ -1,9 +1,7 @@
 use Prim.Native.Nat.{ℕ}
 use lib.Dec.{leb}
-use borrow.Author.Tests.{not-false}
 use Rattle.laws.proofs.Tests.{tests, and_hold}
 use Rattle.conditions.specs.Lines.{yard_line}
-use borrow.Author.Rules.{rules}
 use Rattle.conditions.proofs.yard_line.Goals as goal
 
 pub returns-then-not-size_holds : goal.returns-then-not-size_holds

@@ -1,6 +1,5 @@
 use borrow.Author.Tests.{eq-eqb, ne_eqb}
 use Rattle.rules.specs.Tick.Step4.{arrived}
-use borrow.Author.Rules.{rules}
 use Rattle.device.proofs.arrived.Goals as goal
 
 pub returns-in-None : goal.returns-in-None

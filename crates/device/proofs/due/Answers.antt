@@ -1,4 +1,3 @@
-use borrow.Author.Rules.{rules}
 use Rattle.device.proofs.due.Goals as goal
 
 pub returns-in-Requesting : goal.returns-in-Requesting

@@ -1,6 +1,5 @@
 use mathlib.Core.Path.{◌∙◌, ap}
 use Rattle.rules.specs.Yard.{writes}
-use borrow.Author.Rules.{rules}
 use Rattle.device.proofs.goes_writing.Goals as goal
 
 pub returns : goal.returns

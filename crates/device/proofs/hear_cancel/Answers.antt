@@ -1,4 +1,3 @@
-use borrow.Author.Rules.{rules}
 use Rattle.device.proofs.hear_cancel.Goals as goal
 
 pub returns-in-Entering : goal.returns-in-Entering

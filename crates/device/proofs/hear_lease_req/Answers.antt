@@ -1,5 +1,4 @@
 use borrow.Author.Tests.{eq-eqb, ne_eqb}
-use borrow.Author.Rules.{rules}
 use Rattle.device.proofs.hear_lease_req.Goals as goal
 
 pub returns-then-willing : goal.returns-then-willing

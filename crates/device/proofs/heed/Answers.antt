@@ -1,6 +1,5 @@
 use borrow.Author.Tests.{eq-eqb, ne_eqb}
 use Rattle.rules.specs.Tick.Step2.{heed}
-use borrow.Author.Rules.{rules}
 use Rattle.device.proofs.heed.Goals as goal
 
 pub returns-then-command-eq1 : goal.returns-then-command-eq1

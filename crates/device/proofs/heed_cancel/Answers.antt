@@ -1,4 +1,3 @@
-use borrow.Author.Rules.{rules}
 use Rattle.device.proofs.heed_cancel.Goals as goal
 
 pub returns-in-Requesting : goal.returns-in-Requesting

@@ -1,5 +1,4 @@
 use borrow.Author.Tests.{eq-eqb, ne_eqb}
-use borrow.Author.Rules.{rules}
 use Rattle.device.proofs.heed_request.Goals as goal
 
 pub returns-then-d-s : goal.returns-then-d-s

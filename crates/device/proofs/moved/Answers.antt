@@ -1,6 +1,5 @@
 use mathlib.Core.Path.{sym, ◌∙◌}
 use Rattle.rules.specs.Tick.Step2.{moved}
-use borrow.Author.Rules.{rules}
 use Rattle.device.proofs.moved.Goals as goal
 
 pub returns-then-due : goal.returns-then-due

@@ -1,4 +1,3 @@
-use borrow.Author.Rules.{rules}
 use Rattle.exports.proofs.wilatkhun_check.Goals as goal
 
 pub returns : goal.returns

@@ -2,7 +2,6 @@ use mathlib.Core.Path.{sym, ◌∙◌, ap}
 use lib.ListN.{length}
 use Rattle.rules.specs.declared.FreshAnswer.{FreshAnswer}
 use Rattle.exports_rules.proofs.Lengths.{fresh_sized, fresh_same}
-use borrow.Author.Rules.{rules}
 use Rattle.exports.proofs.wilatkhun_fresh.Goals as goal
 
 pub keep_yard-requires : goal.keep_yard-requires

@@ -2,7 +2,6 @@ use mathlib.Core.Path.{sym, ◌∙◌, ap}
 use lib.ListN.{length}
 use Rattle.listing_rules.specs.declared.Listed.{Listed}
 use Rattle.exports_rules.proofs.Lengths.{list_sized}
-use borrow.Author.Rules.{rules}
 use Rattle.exports.proofs.wilatkhun_list.Goals as goal
 
 pub keep_yard-requires : goal.keep_yard-requires

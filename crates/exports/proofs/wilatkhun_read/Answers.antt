@@ -2,7 +2,6 @@ use mathlib.Core.Path.{sym, ◌∙◌, ap}
 use lib.ListN.{length}
 use Rattle.planfile_rules.specs.declared.ReadAnswer.{ReadAnswer}
 use Rattle.exports_rules.proofs.Lengths.{read_sized}
-use borrow.Author.Rules.{rules}
 use Rattle.exports.proofs.wilatkhun_read.Goals as goal
 
 pub keep_plan-requires : goal.keep_plan-requires

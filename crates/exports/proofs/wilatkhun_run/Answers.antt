@@ -1,7 +1,6 @@
 use mathlib.Core.Path.{sym, ◌∙◌, ap}
 use Rattle.rules.specs.declared.RunAnswer.{RunAnswer}
 use Rattle.exports_rules.proofs.Lengths.{run_sized}
-use borrow.Author.Rules.{rules}
 use Rattle.exports.proofs.wilatkhun_run.Goals as goal
 
 pub keep_yard-requires : goal.keep_yard-requires

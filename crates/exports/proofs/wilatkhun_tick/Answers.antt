@@ -1,7 +1,6 @@
 use mathlib.Core.Path.{sym, ◌∙◌, ap}
 use Rattle.rules.specs.declared.TickAnswer.{TickAnswer}
 use Rattle.exports_rules.proofs.Lengths.{tick_sized}
-use borrow.Author.Rules.{rules}
 use Rattle.exports.proofs.wilatkhun_tick.Goals as goal
 
 pub keep_yard-requires : goal.keep_yard-requires

@@ -1,6 +1,5 @@
 use lib.ListN.{length}
 use Rattle.exports_rules.proofs.Zero.{zero_written}
-use borrow.Author.Rules.{rules}
 use Rattle.exports.proofs.wilatkhun_write.Goals as goal
 
 pub returns : goal.returns

@@ -1,7 +1,6 @@
 use mathlib.Core.Path.{sym}
 use mathlib.Core.List.{append-nil}
 use Rattle.text_rules.proofs.Laying.{and_then, as_text}
-use borrow.Author.Rules.{rules}
 use Rattle.fields.proofs.marked.Goals as goal
 
 pub returns-then-lost : goal.returns-then-lost

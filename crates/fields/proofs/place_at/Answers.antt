@@ -1,7 +1,6 @@
 use native.Mathlib.Omega.{arith}
 use lib.ListN.{get_or-eq_default}
 use Rattle.rules.specs.Yard.{fresh_device}
-use borrow.Author.Rules.{rules}
 use Rattle.fields.proofs.place_at.Goals as goal
 
 pub returns : goal.returns

@@ -1,13 +1,6 @@
-use Prim.Native.Nat.{◌-◌, ◌≤◌}
 use native.Mathlib.Omega.{arith}
-use lib.ListN.{get_or}
-use Rattle.laws.specs.Lists.{tabulate}
-use Rattle.text_rules.specs.Laid.{Laid}
 use Rattle.text_rules.proofs.Laying.{length_kept}
-use Rattle.rules.specs.Yard.{fresh_device}
-use Rattle.listing_rules.specs.Text.{place_text, spaced}
 use Rattle.listing_rules.proofs.Fields.{no_field, one_more, all_fields, next_place}
-use borrow.Author.Rules.{rules}
 use Rattle.fields.proofs.places.Goals as goal
 
 pub loop-k-init : goal.loop-k-init

@@ -1,4 +1,3 @@
-use borrow.Author.Rules.{rules}
 use Rattle.fields.proofs.supervisor.Goals as goal
 
 pub returns-in-FallBack : goal.returns-in-FallBack

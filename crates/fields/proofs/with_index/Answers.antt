@@ -1,5 +1,4 @@
 use Rattle.text_rules.proofs.Laying.{and_then}
-use borrow.Author.Rules.{rules}
 use Rattle.fields.proofs.with_index.Goals as goal
 
 pub returns : goal.returns

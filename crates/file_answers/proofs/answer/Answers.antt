@@ -1,5 +1,4 @@
 use Rattle.planfile_rules.specs.File.{answer_of}
-use borrow.Author.Rules.{rules}
 use Rattle.file_answers.proofs.answer.Goals as goal
 
 pub returns-in-Accepted : goal.returns-in-Accepted

@@ -1,5 +1,4 @@
 use borrow.Author.Tests.{lt-ltb, le-ltb}
-use borrow.Author.Rules.{rules}
 use Rattle.file_answers.proofs.room_verdict.Goals as goal
 
 pub returns-then-room-devices : goal.returns-then-room-devices

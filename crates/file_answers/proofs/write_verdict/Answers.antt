@@ -1,5 +1,4 @@
 use Rattle.planfile_rules.specs.Writing.{write_verdict}
-use borrow.Author.Rules.{rules}
 use Rattle.file_answers.proofs.write_verdict.Goals as goal
 
 pub returns : goal.returns

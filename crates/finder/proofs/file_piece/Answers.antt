@@ -1,6 +1,5 @@
 use borrow.Author.Tests.{lt-ltb, le-ltb}
 use Rattle.finder_rules.specs.Piece.{file_start, file_length}
-use borrow.Author.Rules.{rules}
 use Rattle.finder.proofs.file_piece.Goals as goal
 
 pub returns-then-number-lt10 : goal.returns-then-number-lt10

@@ -1,6 +1,5 @@
 use mathlib.Core.Path.{sym, ◌∙◌}
 use Rattle.finder_rules.proofs.Within.{found_within}
-use borrow.Author.Rules.{rules}
 use Rattle.finder.proofs.find.Goals as goal
 
 pub part-requires : goal.part-requires

@@ -1,7 +1,6 @@
 use mathlib.Core.Path.{sym, ◌∙◌, ap}
 use Rattle.planfile_rules.specs.declared.ReadAnswer.{ReadAnswer}
 use Rattle.finder_rules.specs.Piece.{piece}
-use borrow.Author.Rules.{rules}
 use Rattle.finder.proofs.locate.Goals as goal
 
 pub returns-in_default : goal.returns-in_default

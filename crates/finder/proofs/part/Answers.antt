@@ -3,7 +3,6 @@ use mathlib.Core.List.{List}
 use native.Mathlib.Omega.{arith}
 use mathlib.Core.Path.{◌≡◌, refl, ap}
 use lib.ListN.{take, drop}
-use borrow.Author.Rules.{rules}
 use Rattle.finder.proofs.part.Goals as goal
 
 pub returns : goal.returns

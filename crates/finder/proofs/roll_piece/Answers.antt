@@ -1,11 +1,8 @@
 use native.Mathlib.Omega.{arith}
-use Prim.Native.Nat.{ℕ, min}
-use mathlib.Core.Path.{◌≡◌, ◌∙◌}
-use mathlib.Core.List.{List}
+use mathlib.Core.Path.{◌≡◌}
 use borrow.Author.Tests.{eq-eqb, ne_eqb, lt-ltb, le-ltb}
 use Rattle.rules.specs.Run.{records, record_start, first_bad}
 use Rattle.finder_rules.specs.Piece.{roll_start, roll_length}
-use borrow.Author.Rules.{rules}
 use Rattle.finder.proofs.roll_piece.Goals as goal
 
 pub returns-then-left-ne0 : goal.returns-then-left-ne0

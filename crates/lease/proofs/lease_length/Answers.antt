@@ -1,4 +1,3 @@
-use borrow.Author.Rules.{rules}
 use Rattle.rules.specs.Plan.{slot}
 use Rattle.lease.proofs.lease_length.Goals as goal
 

@@ -2,7 +2,6 @@ use mathlib.Core.Path.{sym}
 use Rattle.text_rules.proofs.Laying.{and_then, as_text}
 use Rattle.rules.specs.Yard.{device}
 use Rattle.listing_rules.proofs.Fields.{line_in_order}
-use borrow.Author.Rules.{rules}
 use Rattle.line.proofs.line.Goals as goal
 
 pub returns : goal.returns

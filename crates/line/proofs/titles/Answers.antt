@@ -1,13 +1,8 @@
-use Prim.Native.Nat.{◌-◌, ◌≤◌}
 use native.Mathlib.Omega.{arith}
 use mathlib.Core.List.{◌∷◌}
-use Rattle.laws.specs.Lists.{tabulate}
 use Rattle.text_rules.specs.Decimal.{decimal}
-use Rattle.text_rules.specs.Laid.{Laid}
 use Rattle.text_rules.proofs.Laying.{and_then, length_kept}
-use Rattle.listing_rules.specs.Text.{spaced}
 use Rattle.listing_rules.proofs.Fields.{no_field, one_more, all_fields}
-use borrow.Author.Rules.{rules}
 use Rattle.line.proofs.titles.Goals as goal
 
 pub loop-k-init : goal.loop-k-init

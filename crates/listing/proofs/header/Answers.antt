@@ -1,6 +1,5 @@
 use native.Mathlib.Omega.{arith}
 use Rattle.listing_rules.proofs.Headers.{many, tight, written}
-use borrow.Author.Rules.{rules}
 use Rattle.listing.proofs.header.Goals as goal
 
 pub returns-then-n-gt8 : goal.returns-then-n-gt8

@@ -1,6 +1,5 @@
 use mathlib.Core.Path.{sym, ◌∙◌}
 use Rattle.listing_rules.proofs.Rolls.{list_refused}
-use borrow.Author.Rules.{rules}
 use Rattle.listing.proofs.list.Goals as goal
 
 pub returns-in_default : goal.returns-in_default

@@ -1,5 +1,4 @@
 use Rattle.rules.specs.Yard.{engaged}
-use borrow.Author.Rules.{rules}
 use Rattle.pace.proofs.engages.Goals as goal
 
 pub returns-in-FallBack : goal.returns-in-FallBack

@@ -1,5 +1,4 @@
-use mathlib.Core.Path.{◌≡◌, sym, ◌∙◌}
-use borrow.Author.Rules.{rules}
+use mathlib.Core.Path.{sym, ◌∙◌}
 use Rattle.pace.proofs.pace_by.Goals as goal
 
 pub returns-then-stirs : goal.returns-then-stirs

@@ -5,7 +5,6 @@ use lib.Dec.{leb}
 use borrow.Author.Tests.{leb-true}
 use Rattle.laws.proofs.Tests.{case, and_hold}
 use Rattle.laws.specs.Bits as bits
-use borrow.Author.Rules.{rules}
 use Rattle.pace.proofs.reached.Goals as goal
 
 pub returns-then-i-eq0 : goal.returns-then-i-eq0

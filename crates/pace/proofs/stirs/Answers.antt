@@ -1,6 +1,5 @@
 use mathlib.Core.Path.{sym, ◌∙◌}
 use borrow.Author.Tests.{ne_eqb}
-use borrow.Author.Rules.{rules}
 use Rattle.pace.specs.Pace.{stirring}
 use Rattle.pace.proofs.stirs.Goals as goal
 

@@ -1,5 +1,4 @@
 use borrow.Author.Tests.{le-ltb, lt-ltb}
-use borrow.Author.Rules.{rules}
 use Rattle.pace.proofs.stops_at.Goals as goal
 
 pub returns-then-clock-limit : goal.returns-then-clock-limit

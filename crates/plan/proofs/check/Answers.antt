@@ -1,8 +1,7 @@
 use Rattle.rules.specs.declared.Plan.{Plan}
-use Prim.Native.Nat.{ℕ, suc, ◌-◌, ◌≤◌}
+use Prim.Native.Nat.{ℕ, suc}
 use native.Mathlib.Omega.{arith}
 use mathlib.Core.Path.{◌≡◌, refl, ◌∙◌}
-use borrow.Author.Rules.{rules}
 use Rattle.plan.proofs.Least.{least, least_at, less, no_less}
 use Rattle.plan.proofs.Verdict.{found, ends_accepted, ends_refused}
 use Rattle.plan.proofs.check.Goals as goal
@@ -23,9 +22,9 @@ loop-k-preserved c =
     let here : c.slot_line-found.result ≡ f (suc k) =
     rw c.place_after-next.ensures.0 at c.slot_line-found.ensures in
     elim c.if-found-line.branch [
-      then-found-line w ↦
+      | then-found-line w ↦
           let l = less f k _ _ _ here inv.1 inv.2 w.if-found-line.true in (omega arith, w.line-is ∙ l.0, w.at-is ∙ l.1)
-    | else-found-line w ↦
+      | else-found-line w ↦
           let l = no_less f k _ _ _ here inv.1 inv.2 w.if-found-line.false in (omega arith, w.line-is ∙ l.0, w.at-is ∙ l.1)
     ]
 

@@ -1,11 +1,7 @@
-use Rattle.rules.specs.declared.Plan.{Plan}
-use mathlib.Core.Logic.{⊎_elim}
-use Prim.Native.Nat.{ℕ, suc, ◌-◌, ◌≤◌}
-use native.Mathlib.Omega.{arith}
-use mathlib.Core.Path.{◌≡◌, refl, ◌∙◌}
-use borrow.Author.Rules.{rules}
-use Rattle.plan.proofs.Least.{least, least_at, less, no_less}
-use Rattle.plan.proofs.Verdict.{found, ends_accepted, ends_refused}
+use Prim.Native.Nat.{◌-◌, ◌≤◌}
+use mathlib.Core.Path.{◌≡◌}
+use Rattle.plan.proofs.Least.{least, least_at}
+use Rattle.plan.proofs.Verdict.{found}
 use Rattle.plan.proofs.check.Given as goal
 
 abbrev pub invariant-loop-k : goal.invariant-loop-k

@@ -1,6 +1,5 @@
 use native.Mathlib.Omega.{arith}
 use borrow.Author.Tests.{lt-ltb, le-ltb}
-use borrow.Author.Rules.{rules}
 use Rattle.plan.proofs.place_after.Goals as goal
 
 pub returns-then-k-lt7 : goal.returns-then-k-lt7

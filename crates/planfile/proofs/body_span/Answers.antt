@@ -1,6 +1,5 @@
 use native.Mathlib.Omega.{arith}
 use Rattle.planfile_rules.proofs.Files.{refused_span, taken_span, starts_within}
-use borrow.Author.Rules.{rules}
 use Rattle.planfile.proofs.body_span.Goals as goal
 
 pub returns-in_default : goal.returns-in_default

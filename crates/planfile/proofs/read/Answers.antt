@@ -5,7 +5,6 @@ use Rattle.planfile_rules.specs.declared.ReadAnswer.{ReadAnswer}
 use Rattle.planfile_rules.specs.File.{answer_of, read_answer}
 use Rattle.planfile_rules.proofs.Files.{trailer_refused, starts_within, ends_within, devices_fit, trailer_taken}
 use Rattle.planfile_rules.proofs.GivenBack.{given_back_of}
-use borrow.Author.Rules.{rules}
 use Rattle.planfile.proofs.read.Goals as goal
 
 pub returns-in_default : goal.returns-in_default

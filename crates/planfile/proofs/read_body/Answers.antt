@@ -1,7 +1,6 @@
 use mathlib.Core.Path.{refl, ◌∙◌}
 use Rattle.bodies.proofs.Rooms.{is_read}
 use Rattle.planfile_rules.proofs.Files.{body_refused, body_checked}
-use borrow.Author.Rules.{rules}
 use Rattle.planfile.proofs.read_body.Goals as goal
 
 pub returns-then-named-n : goal.returns-then-named-n

@@ -12,7 +12,6 @@ use Rattle.rules.proofs.Answers.{not_both}
 use Rattle.planfile_rules.specs.Writing.{body_bytes, body_written, file_bytes, write_verdict}
 use Rattle.planfile_rules.proofs.Written.{nothing_written, few_devices, has_room, all_written}
 use Rattle.bodies.proofs.Rooms.{ends_soon, is_written}
-use borrow.Author.Rules.{rules}
 use Rattle.planfile.proofs.write.Goals as goal
 
 -- The body has been written whole.

@@ -1,7 +1,6 @@
 use mathlib.Core.Path.{sym, ◌∙◌}
 use Rattle.rules.specs.Verdict.{first_refusal}
 use Rattle.rules.specs.Yard.{state_verdict}
-use borrow.Author.Rules.{rules}
 use Rattle.refusals.proofs.state_verdict.Goals as goal
 
 pub returns-in_default : goal.returns-in_default

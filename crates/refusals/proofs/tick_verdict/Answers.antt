@@ -1,5 +1,4 @@
 use mathlib.Core.Path.{sym, ◌∙◌}
-use borrow.Author.Rules.{rules}
 use Rattle.rules.specs.Verdict.{first_refusal}
 use Rattle.rules.specs.Tick.Input.{record_verdict}
 use Rattle.refusals.proofs.Chains.{tick_after}

@@ -1,5 +1,4 @@
 use Rattle.rolls.proofs.Bounds.{is_bound}
-use borrow.Author.Rules.{rules}
 use Rattle.rolls.proofs.bound.Goals as goal
 
 pub returns : goal.returns

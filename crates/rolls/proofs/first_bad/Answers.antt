@@ -1,14 +1,12 @@
-use Prim.Native.Nat.{ℕ, ◌-◌, ◌≤◌, ◌<◌}
+use Prim.Native.Nat.{ℕ, ◌-◌}
 use native.Mathlib.Omega.{arith}
 use mathlib.Core.Path.{◌≡◌, sym, ◌∙◌, ap}
-use mathlib.Core.Bool.{Bool, true, false, not}
+use mathlib.Core.Bool.{true, false, not}
 use mathlib.Core.List.{List}
-use borrow.Author.Rules.{rules}
 use borrow.Author.Count.{below_more}
 use Rattle.laws.proofs.Tests.{lowest_is, lowest_is_none}
 use Rattle.rules.specs.declared.Plan.{Plan}
-use Rattle.rules.specs.Tick.Input.{valid_record}
-use Rattle.rules.specs.Run.{records, record_at}
+use Rattle.rules.specs.Run.{records}
 use Rattle.rolls.specs.Bounds.{Bound}
 use Rattle.rolls.proofs.first_bad.Invariants.{bad}
 use Rattle.rolls.proofs.first_bad.Goals as goal

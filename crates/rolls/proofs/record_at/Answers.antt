@@ -2,7 +2,6 @@ use native.Mathlib.Omega.{arith}
 use mathlib.Core.Path.{refl, sym, ◌∙◌}
 use Rattle.rules.specs.Run.{record_at}
 use Rattle.rolls.proofs.Far.{far_record}
-use borrow.Author.Rules.{rules}
 use Rattle.rolls.proofs.record_at.Goals as goal
 
 pub returns-then-k-count : goal.returns-then-k-count

@@ -1,5 +1,4 @@
 use Rattle.rules.specs.Run.{record_at}
-use borrow.Author.Rules.{rules}
 use Rattle.rolls.proofs.record_left_over.Goals as goal
 
 pub returns : goal.returns

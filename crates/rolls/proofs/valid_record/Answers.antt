@@ -1,4 +1,3 @@
-use borrow.Author.Rules.{rules}
 use Rattle.rolls.proofs.valid_record.Goals as goal
 
 pub returns : goal.returns

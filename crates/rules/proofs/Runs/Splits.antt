@@ -1,5 +1,5 @@
 -- Theorem 4: a run over the first a ticks and then over the rest is one run over all.
-use Prim.Native.Nat.{ℕ, zero, suc, ◌+◌, ◌*◌}
+use Prim.Native.Nat.{ℕ, zero, suc, ◌+◌}
 use native.Mathlib.Omega.{arith}
 use native.Mathlib.Nat.{add-zero, add-suc}
 use mathlib.Core.Path.{◌≡◌, sym, ◌∙◌, ap, ap₂}

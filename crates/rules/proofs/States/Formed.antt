@@ -1,7 +1,7 @@
 -- A well-formed state, read as facts: what the tests of `well_formed` say, both ways.
 use Prim.Native.Nat.{ℕ, zero, suc, ◌≤◌, ◌<◌}
 use mathlib.Core.Path.{◌≡◌, refl, sym, ◌∙◌, ap}
-use mathlib.Core.Bool.{true, false, false≢true}
+use mathlib.Core.Bool.{true, false≢true}
 use lib.Dec.{leb, ltb}
 use borrow.Author.Tests.{ltb-true, ltb-false, leb-true, leb-false, eqb-true, lt-ltb, le-ltb, le-leb, lt-leb, eq-eqb}
 use Rattle.laws.proofs.Tests.{case, all_hold, all_of_lem, each_holds, each_of}
@@ -15,7 +15,7 @@ use Rattle.rules.specs.declared.Letter.TheVariants as letter
 use Rattle.rules.specs.declared.Device.{Device}
 use Rattle.rules.specs.declared.Yard.{Yard}
 use Rattle.rules.specs.Plan.{slot, LS, is_device}
-use Rattle.rules.specs.Yard.{at, device, fresh_device, same_place, same_letter, index_formed, clock_formed, lease_formed, place_formed, letter_formed, is_fresh, device_formed, base_formed, well_formed}
+use Rattle.rules.specs.Yard.{device, fresh_device, same_place, same_letter, index_formed, clock_formed, lease_formed, place_formed, letter_formed, is_fresh, device_formed, base_formed, well_formed}
 use Rattle.rules.specs.Numbers.{place_number, letter_number}
 use Rattle.rules.proofs.Plans.Table.{device_is, is_device_lem, pair_is, is_pair_lem}
 

@@ -1,6 +1,5 @@
 use Rattle.laws.proofs.Writes.{and_then}
 use Rattle.planfile_rules.specs.Writing.{slot_bytes}
-use borrow.Author.Rules.{rules}
 use Rattle.slots.proofs.put_slot.Goals as goal
 
 pub returns : goal.returns

@@ -1,5 +1,4 @@
 use Rattle.planfile_rules.specs.File.{slot_in}
-use borrow.Author.Rules.{rules}
 use Rattle.slots.proofs.slot_in.Goals as goal
 
 pub returns : goal.returns

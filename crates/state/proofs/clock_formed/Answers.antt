@@ -1,6 +1,5 @@
 use borrow.Author.Tests.{le-ltb, lt-ltb}
 use Rattle.rules.specs.Yard.{clock_formed}
-use borrow.Author.Rules.{rules}
 use Rattle.state.proofs.clock_formed.Goals as goal
 
 pub returns-in-FallBack : goal.returns-in-FallBack

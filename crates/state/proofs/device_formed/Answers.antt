@@ -3,7 +3,6 @@ use Rattle.rules.specs.Yard.{device_formed}
 use mathlib.Core.Path.{sym}
 use mathlib.Core.List.{[], ◌∷◌}
 use Rattle.laws.proofs.Tests.{all_is}
-use borrow.Author.Rules.{rules}
 use Rattle.state.proofs.device_formed.Goals as goal
 
 pub returns-then-wide-p : goal.returns-then-wide-p

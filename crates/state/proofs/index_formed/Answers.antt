@@ -1,5 +1,4 @@
 use Rattle.rules.specs.Yard.{index_formed}
-use borrow.Author.Rules.{rules}
 use Rattle.state.proofs.index_formed.Goals as goal
 
 pub returns-in-FallBack : goal.returns-in-FallBack

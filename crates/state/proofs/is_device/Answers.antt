@@ -2,7 +2,6 @@ use Rattle.rules.specs.Plan.{is_device}
 use mathlib.Core.Path.{sym}
 use mathlib.Core.List.{[], ◌∷◌}
 use Rattle.laws.proofs.Tests.{all_is}
-use borrow.Author.Rules.{rules}
 use Rattle.state.proofs.is_device.Goals as goal
 
 pub returns : goal.returns

@@ -1,7 +1,6 @@
 use mathlib.Core.Path.{sym}
 use mathlib.Core.List.{[], ◌∷◌}
 use Rattle.laws.proofs.Tests.{all_is}
-use borrow.Author.Rules.{rules}
 use Rattle.state.proofs.is_fresh.Goals as goal
 
 pub returns : goal.returns

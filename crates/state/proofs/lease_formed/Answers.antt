@@ -1,5 +1,4 @@
 use Rattle.rules.specs.Yard.{lease_formed}
-use borrow.Author.Rules.{rules}
 use Rattle.state.proofs.lease_formed.Goals as goal
 
 pub returns-in-FallBack : goal.returns-in-FallBack

@@ -1,6 +1,5 @@
 use mathlib.Core.Path.{refl}
 use Rattle.rules.specs.Plan.{slot}
-use borrow.Author.Rules.{rules}
 use Rattle.state.proofs.slot_of.Goals as goal
 
 pub returns : goal.returns

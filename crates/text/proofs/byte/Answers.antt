@@ -1,5 +1,4 @@
 use Rattle.text_rules.proofs.Laying.{no_room}
-use borrow.Author.Rules.{rules}
 use Rattle.text.proofs.byte.Goals as goal
 
 pub returns : goal.returns

@@ -1,9 +1,5 @@
-use Prim.Native.Nat.{◌-◌, ◌≤◌}
 use native.Mathlib.Omega.{arith}
-use lib.ListN.{length, take}
-use Rattle.text_rules.specs.Laid.{Laid}
 use Rattle.text_rules.proofs.Laying.{nothing, length_kept, next_byte, all_bytes}
-use borrow.Author.Rules.{rules}
 use Rattle.text.proofs.word.Goals as goal
 
 pub loop-k-init : goal.loop-k-init

@@ -1,9 +1,6 @@
 use Prim.Native.Nat.{◌-◌, ◌≤◌}
-use native.Mathlib.Omega.{arith}
 use lib.ListN.{length, take}
 use Rattle.text_rules.specs.Laid.{Laid}
-use Rattle.text_rules.proofs.Laying.{nothing, length_kept, next_byte, all_bytes}
-use borrow.Author.Rules.{rules}
 use Rattle.text.proofs.word.Given as goal
 
 abbrev pub invariant-loop-k : goal.invariant-loop-k

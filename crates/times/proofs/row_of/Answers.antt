@@ -1,11 +1,10 @@
-use borrow.Author.Rules.{rules}
-use Prim.Native.Nat.{◌-◌, ◌*◌, ◌≤◌}
+use Prim.Native.Nat.{◌*◌}
 use native.Mathlib.Omega.{arith}
 use mathlib.Core.Path.{◌≡◌, refl, sym, ◌∙◌}
 use Rattle.laws.specs.Lists.{tabulate}
 use Rattle.laws.proofs.Lists.{swept_none, swept_all}
 use Rattle.times.specs.Times.{row_of}
-use Rattle.times.proofs.Rows.{time_of_lem, row_to, slot_written}
+use Rattle.times.proofs.Rows.{time_of_lem, slot_written}
 use Rattle.times.proofs.row_of.Goals as goal
 
 pub loop-k-init : goal.loop-k-init

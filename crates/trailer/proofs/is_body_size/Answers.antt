@@ -1,6 +1,5 @@
 use native.Mathlib.Omega.{arith}
 use Rattle.planfile_rules.specs.File.{devices_for, is_body_size}
-use borrow.Author.Rules.{rules}
 use Rattle.trailer.proofs.is_body_size.Goals as goal
 
 pub overflow_mul-result : goal.overflow_mul-result

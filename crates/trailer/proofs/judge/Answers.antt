@@ -1,7 +1,6 @@
 use borrow.Author.Tests.{eq-eqb, ne_eqb}
 use Rattle.rules.specs.Verdict.{first_refusal}
 use Rattle.planfile_rules.specs.File.{trailer_verdict}
-use borrow.Author.Rules.{rules}
 use Rattle.trailer.proofs.judge.Goals as goal
 
 pub returns-then-len : goal.returns-then-len

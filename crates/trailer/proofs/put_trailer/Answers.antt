@@ -1,7 +1,6 @@
 use Rattle.laws.proofs.Writes.{then_more, past_end}
 use Rattle.numbers.specs.Bytes.{two_bytes, four_bytes}
 use Rattle.planfile_rules.specs.Writing.{trailer_bytes}
-use borrow.Author.Rules.{rules}
 use Rattle.trailer.proofs.put_trailer.Goals as goal
 
 pub returns-then-out-at : goal.returns-then-out-at

@@ -1,5 +1,4 @@
 use Rattle.planfile_rules.specs.File.{trailer_in}
-use borrow.Author.Rules.{rules}
 use Rattle.trailer.proofs.read_trailer.Goals as goal
 
 pub returns : goal.returns

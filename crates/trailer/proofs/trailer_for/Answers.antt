@@ -1,5 +1,4 @@
 use Rattle.planfile_rules.specs.Writing.{trailer_for}
-use borrow.Author.Rules.{rules}
 use Rattle.trailer.proofs.trailer_for.Goals as goal
 
 pub returns : goal.returns

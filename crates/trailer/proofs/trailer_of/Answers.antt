@@ -4,7 +4,6 @@ use mathlib.Core.Path.{◌≡◌, ◌∙◌, ap}
 use lib.ListN.{length}
 use borrow.Author.Rules.{part_to_end}
 use Rattle.planfile_rules.specs.File.{trailer_in}
-use borrow.Author.Rules.{rules}
 use Rattle.trailer.proofs.trailer_of.Goals as goal
 
 pub returns-then-len-lt10 : goal.returns-then-len-lt10

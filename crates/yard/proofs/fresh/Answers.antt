@@ -1,5 +1,4 @@
 use Rattle.rules.specs.Yard.{fresh_answer}
-use borrow.Author.Rules.{rules}
 use Rattle.yard.proofs.fresh.Goals as goal
 
 pub returns : goal.returns

@@ -1,4 +1,3 @@
-use borrow.Author.Rules.{rules}
 use Rattle.rules.specs.Yard.{fresh_yard}
 use Rattle.yard.proofs.fresh_yard.Goals as goal
 

@@ -1,10 +1,8 @@
 use Prim.Native.Nat.{ℕ}
-use native.Mathlib.Omega.{arith}
 use mathlib.Core.List.{List}
 use Rattle.rules.specs.declared.Plan.{Plan}
 use Rattle.rules.specs.declared.Yard.{Yard}
 use Rattle.yard.proofs.Answers.{run_refused, run_taken, run_accepted, run_keeps}
-use borrow.Author.Rules.{rules}
 use Rattle.yard.proofs.run.Goals as goal
 
 pub returns-in_default : goal.returns-in_default

@@ -1,7 +1,6 @@
 use native.Mathlib.Omega.{arith}
 use mathlib.Core.Path.{sym, ◌∙◌}
 use Rattle.yard.proofs.Answers.{tick_taken, tick_refused, tick_accepted}
-use borrow.Author.Rules.{rules}
 use Rattle.yard.proofs.tick.Goals as goal
 
 pub returns-in_default : goal.returns-in_default

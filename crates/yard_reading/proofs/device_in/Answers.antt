@@ -1,4 +1,3 @@
-use borrow.Author.Rules.{rules}
 use Rattle.layout_rules.specs.Reading.{device_in}
 use Rattle.yard_reading.proofs.device_in.Goals as goal
 

@@ -1,8 +1,6 @@
-use Prim.Native.Nat.{◌-◌, ◌≤◌}
 use native.Mathlib.Omega.{arith}
 use mathlib.Core.Path.{◌≡◌, sym, ◌∙◌}
-use borrow.Author.Rules.{rules}
-use Rattle.laws.specs.Lists.{tabulate, swept}
+use Rattle.laws.specs.Lists.{tabulate}
 use Rattle.laws.proofs.Lists.{swept_none, swept_next, swept_all}
 use Rattle.rules.specs.Yard.{fresh_device}
 use Rattle.layout_rules.specs.Reading.{device_in}

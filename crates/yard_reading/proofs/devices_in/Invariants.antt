@@ -1,9 +1,6 @@
 use Prim.Native.Nat.{◌-◌, ◌≤◌}
-use native.Mathlib.Omega.{arith}
-use mathlib.Core.Path.{◌≡◌, sym, ◌∙◌}
-use borrow.Author.Rules.{rules}
-use Rattle.laws.specs.Lists.{tabulate, swept}
-use Rattle.laws.proofs.Lists.{swept_none, swept_next, swept_all}
+use mathlib.Core.Path.{◌≡◌}
+use Rattle.laws.specs.Lists.{swept}
 use Rattle.rules.specs.Yard.{fresh_device}
 use Rattle.layout_rules.specs.Reading.{device_in}
 use Rattle.yard_reading.proofs.devices_in.Given as goal

@@ -1,10 +1,7 @@
-use Prim.Native.Nat.{◌+◌, ◌-◌, ◌≤◌}
 use native.Mathlib.Omega.{arith}
 use native.Mathlib.Numerals.{add-one}
 use mathlib.Core.Path.{◌≡◌, refl}
-use borrow.Author.Rules.{rules}
 use Rattle.laws.specs.Tests.{each}
-use Rattle.layout_rules.specs.Reading.{device_stands}
 use Rattle.yard_reading.proofs.devices_stand.Goals as goal
 
 pub loop-k-init : goal.loop-k-init

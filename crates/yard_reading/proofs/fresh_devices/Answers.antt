@@ -1,4 +1,3 @@
-use borrow.Author.Rules.{rules}
 use Rattle.yard_reading.proofs.fresh_devices.Goals as goal
 
 pub returns : goal.returns

@@ -1,7 +1,6 @@
 use mathlib.Core.Path.{sym, ◌∙◌}
 use mathlib.Core.List.{[], ◌∷◌}
 use borrow.Author.Tests.{le-leb, lt-leb}
-use borrow.Author.Rules.{rules}
 use Rattle.laws.proofs.Tests.{all_is}
 use Rattle.layout_rules.specs.Bytes.{yard_size}
 use Rattle.layout_rules.specs.Reading.{is_yard}

@@ -1,4 +1,3 @@
-use borrow.Author.Rules.{rules}
 use Rattle.layout_rules.specs.Reading.{no_yard}
 use Rattle.yard_reading.proofs.no_yard.Goals as goal
 

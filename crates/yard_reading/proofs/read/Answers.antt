@@ -1,6 +1,4 @@
 use mathlib.Core.Path.{sym, ◌∙◌}
-use borrow.Author.Tests.{not-true, not-false}
-use borrow.Author.Rules.{rules}
 use Rattle.layout_rules.specs.Reading.{yard_in, yard_of}
 use Rattle.yard_reading.proofs.read.Goals as goal
 

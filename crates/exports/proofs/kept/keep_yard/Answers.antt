@@ -1,5 +1,4 @@
 use Rattle.exports_rules.proofs.Sizes.{yard_fills}
-use borrow.Author.Rules.{rules}
 use Rattle.exports.proofs.kept.keep_yard.Goals as goal
 
 pub returns : goal.returns

@@ -1,5 +1,4 @@
 use native.Mathlib.Omega.{arith}
-use borrow.Author.Rules.{rules}
 use Rattle.laws.proofs.Writes.{and_then, as_end}
 use Rattle.layout_rules.specs.Bytes.{device_bytes}
 use Rattle.layout.proofs.yard.put_device.Goals as goal

@@ -1,12 +1,8 @@
-use Prim.Native.Nat.{◌+◌, ◌-◌, ◌≤◌}
 use native.Mathlib.Omega.{arith}
 use mathlib.Core.Path.{◌≡◌, refl}
-use lib.ListN.{length}
-use borrow.Author.Rules.{rules}
-use Rattle.laws.specs.Written.{Written}
 use Rattle.laws.proofs.Writes.{no_piece, next_member, length_kept, as_end}
 use Rattle.rules.specs.Yard.{fresh_device}
-use Rattle.layout_rules.specs.Bytes.{device_bytes, devices_bytes, device_start}
+use Rattle.layout_rules.specs.Bytes.{device_bytes}
 use Rattle.layout.proofs.yard.put_devices.Goals as goal
 
 pub loop-k-init : goal.loop-k-init

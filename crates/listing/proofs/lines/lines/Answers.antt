@@ -1,8 +1,6 @@
-use Prim.Native.Nat.{◌-◌}
 use native.Mathlib.Omega.{arith}
 use Rattle.text_rules.proofs.Laying.{length_kept}
-use Rattle.listing_rules.proofs.Standing.{Standing, goes_on, start, next, done}
-use borrow.Author.Rules.{rules}
+use Rattle.listing_rules.proofs.Standing.{goes_on, start, next, done}
 use Rattle.listing.proofs.lines.lines.Goals as goal
 
 pub loop-k-init : goal.loop-k-init

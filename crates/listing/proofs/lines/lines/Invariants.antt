@@ -1,8 +1,5 @@
 use Prim.Native.Nat.{◌-◌}
-use native.Mathlib.Omega.{arith}
-use Rattle.text_rules.proofs.Laying.{length_kept}
-use Rattle.listing_rules.proofs.Standing.{Standing, goes_on, start, next, done}
-use borrow.Author.Rules.{rules}
+use Rattle.listing_rules.proofs.Standing.{Standing}
 use Rattle.listing.proofs.lines.lines.Given as goal
 
 abbrev pub invariant-loop-k : goal.invariant-loop-k

@@ -1,6 +1,5 @@
 use Rattle.numbers.specs.Bytes.{num32}
 use Rattle.numbers.proofs.Back.{nothing_there}
-use borrow.Author.Rules.{rules}
 use Rattle.numbers.proofs.read.four_at.Goals as goal
 
 pub returns-then-s-at : goal.returns-then-s-at

@@ -2,7 +2,6 @@ use Prim.Native.Nat.{◌+◌}
 use native.Mathlib.Omega.{arith}
 use lib.ListN.{get_or-eq_default}
 use Rattle.numbers.specs.Bytes.{num16}
-use borrow.Author.Rules.{rules}
 use Rattle.numbers.proofs.read.two_at.Goals as goal
 
 pub returns-then-len-at : goal.returns-then-len-at

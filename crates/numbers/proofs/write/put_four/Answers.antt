@@ -1,6 +1,5 @@
 use Rattle.laws.proofs.Writes.{then_more, past_end}
 use Rattle.numbers.specs.Bytes.{two_bytes, four_bytes}
-use borrow.Author.Rules.{rules}
 use Rattle.numbers.proofs.write.put_four.Goals as goal
 
 pub returns-then-out-at : goal.returns-then-out-at

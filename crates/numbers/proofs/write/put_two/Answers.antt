@@ -2,7 +2,6 @@ use native.Mathlib.Omega.{arith}
 use lib.ListN.{length-set}
 use Rattle.laws.proofs.Writes.{past_end, two_bytes_lem, first_byte}
 use Rattle.numbers.specs.Bytes.{two_bytes}
-use borrow.Author.Rules.{rules}
 use Rattle.numbers.proofs.write.put_two.Goals as goal
 
 pub returns-then-len-at : goal.returns-then-len-at

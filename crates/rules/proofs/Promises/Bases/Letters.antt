@@ -15,7 +15,7 @@ use Rattle.rules.specs.declared.Record.{Record}
 use Rattle.rules.specs.Plan.{slot}
 use Rattle.rules.specs.Yard.{at, device}
 use Rattle.rules.specs.Tick.Input.{up_lost}
-use Rattle.rules.specs.Tick.Step1.{stops_at, device_clock, clocked}
+use Rattle.rules.specs.Tick.Step1.{stops_at, clocked}
 use Rattle.rules.specs.Tick.Step2.{moved, moved_at}
 use Rattle.rules.specs.Tick.Step3.{heard}
 use Rattle.rules.specs.Theorems.{Accepts}

@@ -17,7 +17,7 @@ use Rattle.rules.specs.Plan.{slot}
 use Rattle.rules.specs.Yard.{at}
 use Rattle.rules.specs.Tick.Input.{request, cancel}
 use Rattle.rules.specs.Tick.Step1.{device_clock, clocked}
-use Rattle.rules.specs.Tick.Step2.{due, heed, moved, moved_at}
+use Rattle.rules.specs.Tick.Step2.{heed, moved, moved_at}
 use Rattle.rules.proofs.Promises.Stays.Moves.{on_heed}
 
 -- A device stands in a place, with a clock.

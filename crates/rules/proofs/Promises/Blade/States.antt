@@ -18,7 +18,6 @@ use Rattle.rules.specs.declared.Down.TheVariants as down
 use Rattle.rules.specs.declared.Device.{Device}
 use Rattle.rules.specs.Plan.{slot, stay, LS}
 use Rattle.rules.specs.Yard.{at, device}
-use Rattle.rules.specs.Tick.Step1.{device_clock}
 use Rattle.rules.specs.Tick.Step4.{arrived}
 use Rattle.rules.specs.Theorems.{Accepts}
 use Rattle.rules.proofs.States.Formed.{Lettered, Formed}

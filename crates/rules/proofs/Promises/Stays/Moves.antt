@@ -17,8 +17,8 @@ use Rattle.rules.specs.declared.Record.{Record}
 use Rattle.rules.specs.Plan.{slot}
 use Rattle.rules.specs.Yard.{at, engaged}
 use Rattle.rules.specs.Tick.Input.{request, cancel}
-use Rattle.rules.specs.Tick.Step1.{stops_at, device_clock, clocked}
-use Rattle.rules.specs.Tick.Step2.{due, heed_request, heed_cancel, heed, moved, moved_at}
+use Rattle.rules.specs.Tick.Step1.{stops_at, clocked}
+use Rattle.rules.specs.Tick.Step2.{heed_request, heed_cancel, heed, moved, moved_at}
 use Rattle.rules.proofs.States.Formed.{Placed}
 use Rattle.rules.proofs.Promises.Stays.Stay.{Active, Idle, spent, age}
 

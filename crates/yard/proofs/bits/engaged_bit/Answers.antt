@@ -2,7 +2,6 @@ use Prim.Native.Nat.{ℕ, ◌*◌, ◌%◌, ◌^◌, ◌<◌}
 use native.Mathlib.Omega.{arith}
 use mathlib.Core.Path.{◌≡◌, sym}
 use lib.Pow.{pow_mono}
-use borrow.Author.Rules.{rules}
 use Rattle.yard.proofs.bits.engaged_bit.Goals as goal
 
 shifted : (k : ℕ) → k < 8 → 1 * 2 ^ k % 256 ≡ 2 ^ k

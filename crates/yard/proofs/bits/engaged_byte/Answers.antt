@@ -1,12 +1,10 @@
-use Prim.Native.Nat.{ℕ, ◌+◌, ◌-◌, ◌≤◌, ◌<◌}
+use Prim.Native.Nat.{◌+◌}
 use native.Mathlib.Omega.{arith}
-use mathlib.Core.Path.{◌≡◌, refl, sym, ◌∙◌}
+use mathlib.Core.Path.{◌≡◌, refl}
 use mathlib.Core.List.{List}
 use Rattle.laws.specs.Bits.{of_bits}
 use Rattle.rules.specs.declared.Device.{Device}
-use Rattle.yard.specs.Engaged.{byte_of}
 use Rattle.yard.proofs.Bytes.{byte_small, byte_next}
-use borrow.Author.Rules.{rules}
 use Rattle.yard.proofs.bits.engaged_byte.Goals as goal
 
 pub loop-k-init : goal.loop-k-init

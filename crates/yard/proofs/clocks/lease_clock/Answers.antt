@@ -1,5 +1,3 @@
-use Rattle.rules.specs.Tick.Step1.{lease_clock}
-use borrow.Author.Rules.{rules}
 use Rattle.yard.proofs.clocks.lease_clock.Goals as goal
 
 pub returns-in-FallBack : goal.returns-in-FallBack

@@ -1,6 +1,4 @@
 use borrow.Author.Tests.{le-ltb, lt-ltb}
-use Rattle.rules.specs.Tick.Step1.{place_clock}
-use borrow.Author.Rules.{rules}
 use Rattle.yard.proofs.clocks.place_clock.Goals as goal
 
 pub returns-in-FallBack : goal.returns-in-FallBack

@@ -2,8 +2,8 @@ use Prim.Native.Nat.{ℕ, ◌+◌, ◌-◌, ◌≤◌, ◌<◌}
 use native.Mathlib.Omega.{arith}
 use mathlib.Core.Path.{◌≡◌, sym, ◌∙◌, ap}
 use mathlib.Core.Bool.{true, false}
-use mathlib.Core.List.{List, map}
-use lib.ListN.{length, length-map}
+use mathlib.Core.List.{List}
+use lib.ListN.{length}
 use borrow.Author.Rules.{rules}
 use Rattle.rules.specs.declared.BaseMove.{BaseMove}
 use Rattle.rules.specs.declared.Device.{Device}
@@ -12,7 +12,6 @@ use Rattle.rules.specs.declared.Plan.{Plan}
 use Rattle.rules.specs.declared.Record.{Record}
 use Rattle.rules.specs.declared.Terms.{Terms}
 use Rattle.rules.specs.declared.Yard.{Yard}
-use Rattle.rules.specs.Numbers.{base_index}
 use Rattle.rules.specs.Tick.Input.{down_lost}
 use Rattle.pace.specs.Pace.{reached_by}
 use Rattle.laws.specs.Bits.{bit}
@@ -71,11 +70,11 @@ loop-i-preserved c =
     let low : here.i < last = omega arith in
     next_passed inv low
     (elim c.match-pace.branch [
-      in-NothingDue w ↦
+      | in-NothingDue w ↦
           let still = rw w.in-NothingDue.is at (paced _ _ _ c.pace_of-pace.ensures) in
           rw (w.devices-is, w.byte-is, w.from_own-is)
           (stays inv (without_command o here.i low) c.row_of-row.ensures still).0
-    | in-Moves w ↦
+      | in-Moves w ↦
           rw (w.devices-is, w.byte-is, w.from_own-is ∙ w.listen-from_own.ensures)
           (moves inv false 0 (participant o here.i low) w.rise-up.ensures w.rebit-byte.ensures).0
     ])
@@ -144,11 +143,11 @@ loop-k-preserved c =
     let inv : Passed o last here.devices here.from_own here.byte = rw done at here.invariant in
     let come : Come o (last + 1) left from_own byte × (from_last ≡ hears o last) =
     elim c.match-pace-2.branch [
-      in-NothingDue-pace w ↦
+      | in-NothingDue-pace w ↦
           let still = rw w.in-NothingDue-pace.is at (paced _ _ _ c.pace_of-pace-in-loop-k.ensures) in
           rw (w.devices-is, w.byte-is, w.from_own-is, w.from_last-is)
           (stays inv (initializer o) c.row_of-row.ensures still)
-    | in-Moves-pace w ↦
+      | in-Moves-pace w ↦
           let listened = w.from_own-is ∙ w.listen-from_own-in-Moves-pace.ensures in
           rw (w.devices-is, w.byte-is, listened, w.from_last-is)
           (moves inv true r.command (initializer o) w.rise-up-in-Moves-pace.ensures w.rebit-byte-in-Moves-pace.ensures)
@@ -162,7 +161,7 @@ loop-k-preserved c =
     let end : (c.if-to-ne0.devices ≡ sweep p.N (delivered_by p.slots (down_lost r) r.willing m.down) left)
     × (byte ≡ byte_of p.N c.if-to-ne0.devices) =
     elim c.if-to-ne0.branch [
-      then-to-ne0 w ↦
+      | then-to-ne0 w ↦
           let at = w.index_of-at.ensures in
           let x : Device = w.arrive.result in
           let x_is : x ≡ arrived (slot_at p.slots to) (bit r.willing (to - 1)) m.down to (device_at left to) =
@@ -171,7 +170,7 @@ loop-k-preserved c =
             reaches p.slots (down_lost r) r.willing m.down p.N to left eight to_is x w.if-to-ne0.true fit.few x_is,
             byte_left ∙ sym (arrival_byte p.N to left _ _ m.down x eight (omega (arith, w.if-to-ne0.true)) to_in fit.few x_is),
           )
-    | else-to-ne0 w ↦
+      | else-to-ne0 w ↦
           rw w.devices-is
           (unreached p.slots (down_lost r) r.willing m.down p.N to left eight to_is w.if-to-ne0.false, byte_left)
     ] in

@@ -1,5 +1,4 @@
 use mathlib.Core.Path.{◌∙◌}
-use borrow.Author.Rules.{rules}
 use Rattle.yard.proofs.engine.supervise.Goals as goal
 
 pub returns : goal.returns

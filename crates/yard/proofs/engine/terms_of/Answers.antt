@@ -1,4 +1,3 @@
-use borrow.Author.Rules.{rules}
 use Rattle.yard.proofs.engine.terms_of.Goals as goal
 
 pub returns : goal.returns

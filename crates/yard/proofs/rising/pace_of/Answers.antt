@@ -1,5 +1,4 @@
 use native.Mathlib.Omega.{arith}
-use borrow.Author.Rules.{rules}
 use Rattle.pace.proofs.Quiet.{number_below}
 use Rattle.yard.proofs.rising.pace_of.Goals as goal
 
