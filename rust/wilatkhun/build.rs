@@ -1,4 +1,4 @@
-//! Links the static library that `rt staticlib exports` writes at the repository's root, and takes the words of the refusals
+//! Links the static library that `tools/archive` writes at the repository's root, and takes the words of the refusals
 //! from README.md's table, where they stand once.
 
 use std::path::{Path, PathBuf};
@@ -13,7 +13,7 @@ fn link(folder: &Path) {
     let archive = folder.join("libexports.a");
     println!("cargo::rerun-if-changed={}", archive.display());
     if !archive.exists() {
-        println!("cargo::error=target/staticlib/libexports.a is missing: run `rt staticlib exports` first");
+        println!("cargo::error=target/staticlib/libexports.a is missing: run `tools/archive` first");
         return;
     }
     println!("cargo::rustc-link-search=native={}", folder.display());

@@ -1,6 +1,6 @@
 // The program that crews run: it rehearses the yard in the current folder.
 #![tactic(auto)]
 
-fn main() {
-    rehearsal::rehearse();
+fn main(rt: HostRuntime) {
+    rehearsal::rehearse(&rt);
 }

@@ -2,41 +2,34 @@
 // must print is in stdout. What stands behind byte 40,000 of a roll is not looked at, and a missing file counts as empty.
 #![tactic(auto)]
 
-use libc::{STDIN_FILENO, STDOUT_FILENO};
+use case_input::fill;
+use std::rt::Files;
 
-// The first `len` bytes of a block; all of it, if it has no more.
-fn front(block: &[u8], len: usize) -> &[u8] {
-    if block.len() < len {
-        return block;
-    }
-    &block[0..len]
+// A folder's name and a file's in it, as far as there is room. What is no text names no file.
+fn path<'a>(room: &'a mut [u8], folder: &[u8], file: &[u8]) -> &'a str {
+    let at = text::word(folder, room, 0);
+    let end = text::word(file, room, at).min(room.len());
+    str::from_utf8(&room[..end]).unwrap_or("")
 }
 
-fn tell(name: &[u8]) {
-    io::write_all(STDOUT_FILENO, name);
-    io::write_all(STDOUT_FILENO, b"\n");
-    let mut plan_path = [0u8; 64];
-    let mut roll_path = [0u8; 64];
-    let plan_at = text::word(name, &mut plan_path, 0);
-    let roll_at = text::word(name, &mut roll_path, 0);
-    let plan_end = text::word(b"/yard.plan", &mut plan_path, plan_at);
-    let roll_end = text::word(b"/yard.roll", &mut roll_path, roll_at);
-    rehearsal::rehearse_files(front(&plan_path, plan_end), front(&roll_path, roll_end));
+fn tell(rt: &(impl Files + Print + Eprint), name: &[u8]) {
+    let _ = rt.write_all(name);
+    let _ = rt.write_all(b"\n");
+    let mut plan_room = [0u8; 64];
+    let mut roll_room = [0u8; 64];
+    let plan_path = path(&mut plan_room, name, b"/yard.plan");
+    let roll_path = path(&mut roll_room, name, b"/yard.roll");
+    rehearsal::rehearse_files(rt, plan_path, roll_path);
 }
 
-fn main() {
+fn main(rt: HostRuntime) {
     let mut names = [0u8; 1024];
-    let len = io::read_full(STDIN_FILENO, &mut names);
+    let len = fill(&mut rt.reader(), &mut names);
     let mut from: usize = 0;
-    let mut k: usize = 0;
-    while k < 1024 {
-        if k == len {
-            break;
-        }
+    for k in 0..len {
         if names[k] == b'\n' {
-            tell(&names[from..k]);
+            tell(&rt, &names[from..k]);
             from = k + 1;
         }
-        k += 1;
     }
 }

@@ -11,43 +11,36 @@
 mod reads;
 
 use case_input::byte;
-use libc::STDOUT_FILENO;
 use reads::next_read;
+use std::io::Read;
 use write_cases::next_write;
 
 // The next case: 0 where there is none, 1 where it comes out right, 2 where it does not. At the input's end the kind reads as
 // 0, and no file follows.
-fn next_case(file: &mut [u8], roll: &mut [u8]) -> u8 {
-    let kind = byte();
-    if kind == 0 {
-        return next_read(file, roll);
+fn next_case(input: &mut impl Read, file: &mut [u8], roll: &mut [u8]) -> u8 {
+    match byte(input) {
+        0 => next_read(input, file, roll),
+        1 => next_write(input, file, roll),
+        _ => 0,
     }
-    if kind == 1 {
-        return next_write(file, roll);
-    }
-    0
 }
 
-// A proved loop has to end, and nothing says that an input does: it counts its turns down from a number that none uses up.
-fn main() {
+// A proved loop has to end, and nothing says that an input does: it has more turns than there are cases.
+fn main(rt: HostRuntime) {
+    let mut input = rt.reader();
     let mut file = [0u8; 70000];
     let mut roll = [0u8; 70000];
-    let mut turns = 1000000u64;
     let mut cases = 0u64;
     let mut wrong = 0u64;
-    while turns > 0 {
-        let c = next_case(&mut file, &mut roll);
+    for _ in 0..1_000_000 {
+        let c = next_case(&mut input, &mut file, &mut roll);
         if c == 0 {
             break;
         }
-        cases = std::num::wrapping_add_u64(cases, 1);
+        cases = cases.wrapping_add(1);
         if c == 2 {
-            wrong = std::num::wrapping_add_u64(wrong, 1);
+            wrong = wrong.wrapping_add(1);
         }
-        turns -= 1;
     }
-    io::print_decimal(STDOUT_FILENO, cases);
-    io::write_all(STDOUT_FILENO, b" cases, ");
-    io::print_decimal(STDOUT_FILENO, wrong);
-    io::write_all(STDOUT_FILENO, b" different\n");
+    let _ = println!(rt; "{cases} cases, {wrong} different");
 }

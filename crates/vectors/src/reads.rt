@@ -1,6 +1,7 @@
 // A file and a roll: what the reader and the run say of them, and the piece that the finder hands back.
 use case_input::{byte, bytes, is_said, number_or_zero};
 use rules::Verdict;
+use std::io::Read;
 
 // The verdict on a file, and where that is taken on a roll from a fresh yard, with nothing run.
 fn verdict(file: &[u8], roll: &[u8]) -> Verdict {
@@ -28,28 +29,25 @@ fn wanted<'a>(whole: &'a [u8], start: usize, len: usize) -> &'a [u8] {
 }
 
 // Whether one case comes out as it should.
-fn right<'a>(file: &'a [u8], roll: &'a [u8]) -> bool {
+fn right(input: &mut impl Read, file: &[u8], roll: &[u8]) -> bool {
     let v = verdict(file, roll);
-    let said = is_said(v);
-    let of_roll = byte() == 1;
-    let start = number_or_zero();
-    let len = number_or_zero();
+    let said = is_said(input, v);
+    let of_roll = byte(input) == 1;
+    let start = number_or_zero(input);
+    let len = number_or_zero(input);
     let found = finder::find(file, roll);
-    let there = if of_roll {
-        check::same(found, wanted(roll, start, len))
-    } else {
-        check::same(found, wanted(file, start, len))
-    };
+    let whole = if of_roll { roll } else { file };
+    let there = *found == *wanted(whole, start, len);
     said & (found.len() == len) & there
 }
 
 // The next case: 0 where there is none, 1 where it comes out right, 2 where it does not.
-pub(crate) fn next_read(file: &mut [u8], roll: &mut [u8]) -> u8 {
-    let a = bytes(file);
+pub(crate) fn next_read(input: &mut impl Read, file: &mut [u8], roll: &mut [u8]) -> u8 {
+    let a = bytes(input, file);
     if !a.there {
         return 0;
     }
-    let b = bytes(roll);
+    let b = bytes(input, roll);
     if !b.there {
         return 0;
     }
@@ -61,7 +59,7 @@ pub(crate) fn next_read(file: &mut [u8], roll: &mut [u8]) -> u8 {
     if roll.len() < roll_len {
         return 0;
     }
-    if right(&file[0..file_len], &roll[0..roll_len]) {
+    if right(input, &file[..file_len], &roll[..roll_len]) {
         return 1;
     }
     2

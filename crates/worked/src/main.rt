@@ -3,7 +3,6 @@
 // Each line is number and index.
 #![tactic(auto)]
 
-use libc::STDOUT_FILENO;
 use rules::{Plan, Slot, Verdict};
 
 fn times(F: u16, E: u16, R: u16, X: u16, G: u16, S: u16) -> Slot {
@@ -18,35 +17,23 @@ fn two(N: u16, W: u16, B: u16, Q: u16, one: Slot, other: Slot) -> Plan {
     Plan { N, W, B, Q, slots }
 }
 
-fn tell(p: Plan) {
-    let v = plan::check(p);
-    match v {
-        Verdict::Accepted => {
-            io::write_all(STDOUT_FILENO, b"0 0\n");
-        }
-        Verdict::Refused { number, index } => {
-            io::print_decimal(STDOUT_FILENO, number as u64);
-            io::write_all(STDOUT_FILENO, b" ");
-            io::print_decimal(STDOUT_FILENO, index as u64);
-            io::write_all(STDOUT_FILENO, b"\n");
-        }
-    }
+fn tell(rt: &impl Print, p: Plan) {
+    let (number, index) = match plan::check(p) {
+        Verdict::Accepted => (0, 0),
+        Verdict::Refused { number, index } => (number, index),
+    };
+    let _ = println!(rt; "{number} {index}");
 }
 
-fn main() {
+fn main(rt: HostRuntime) {
     let one = times(1, 1, 7, 2, 1, 1);
     let other = times(1, 3, 2, 1, 0, 0);
-    tell(two(2, 1, 1, 3, one, other));
-    tell(two(2, 4, 1, 3, one, other));
-    tell(two(2, 1, 1, 3, times(1, 1, 7, 2, 0, 1), other));
-    tell(two(1, 1, 1, 3, one, other));
-    tell(two(9, 1, 1, 3, one, other));
-    tell(two(
-        2,
-        1,
-        1,
-        1,
-        times(1, 10, 350, 60, 10, 15),
-        times(1, 30, 200, 15, 0, 0),
-    ));
+    tell(&rt, two(2, 1, 1, 3, one, other));
+    tell(&rt, two(2, 4, 1, 3, one, other));
+    tell(&rt, two(2, 1, 1, 3, times(1, 1, 7, 2, 0, 1), other));
+    tell(&rt, two(1, 1, 1, 3, one, other));
+    tell(&rt, two(9, 1, 1, 3, one, other));
+    let pendulum_one = times(1, 10, 350, 60, 10, 15);
+    let pendulum_other = times(1, 30, 200, 15, 0, 0);
+    tell(&rt, two(2, 1, 1, 1, pendulum_one, pendulum_other));
 }

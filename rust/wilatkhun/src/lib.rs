@@ -5,7 +5,7 @@
 //! No call panics or keeps anything, and one that refuses changes nothing that was lent to it. None allocates but
 //! [`listing`], which answers its whole text as a `String`.
 //!
-//! The library is linked from `target/staticlib` at the repository's root; `rt staticlib exports` writes it.
+//! The library is linked from `target/staticlib` at the repository's root; `tools/archive` writes it.
 #![deny(unsafe_code)]
 #![warn(missing_debug_implementations)]
 
