@@ -30,14 +30,18 @@ fn open_and_fill(rt: &impl Files, path: &str, buffer: &mut [u8]) -> io::Result<u
 }
 
 // The bytes of a file, as many as the buffer holds; it answers how many. A file that cannot be opened, or read to its end, has
-// none, and a line on standard error says why.
-pub(crate) fn load(rt: &(impl Files + Eprint), path: &str, buffer: &mut [u8]) -> usize
+// none, and a line on standard error says why. A path that is no text names no file.
+pub(crate) fn load(rt: &(impl Files + Eprint), path: &[u8], buffer: &mut [u8]) -> usize
     ensures { result ≤ length buffer.new }
 {
-    match open_and_fill(rt, path, buffer) {
+    let Ok(name) = str::from_utf8(path) else {
+        let _ = eprintln!(rt; "a file's path is no text");
+        return 0;
+    };
+    match open_and_fill(rt, name, buffer) {
         Ok(len) => len,
         Err(e) => {
-            tell(rt, path, e);
+            tell(rt, name, e);
             0
         }
     }

@@ -77,7 +77,7 @@ fn show(rt: &impl Print, file: &[u8], roll: &[u8]) -> io::Result<()> {
 
 // The same of any two files. Of the plan file one byte more than the longest, so that a longer one is seen to be too long; of
 // the roll the first 40,000 bytes, 10,000 ticks.
-pub fn rehearse_files(rt: &(impl Files + Print + Eprint), plan_path: &str, roll_path: &str) {
+pub fn rehearse_files(rt: &(impl Files + Print + Eprint), plan_path: &[u8], roll_path: &[u8]) {
     let mut file = [0u8; 65537];
     let mut roll = [0u8; 40000];
     let file_len = load(rt, plan_path, &mut file);
@@ -88,5 +88,5 @@ pub fn rehearse_files(rt: &(impl Files + Print + Eprint), plan_path: &str, roll_
 }
 
 pub fn rehearse(rt: &(impl Files + Print + Eprint)) {
-    rehearse_files(rt, "yard.plan", "yard.roll");
+    rehearse_files(rt, b"yard.plan", b"yard.roll");
 }

@@ -5,11 +5,11 @@
 use case_input::fill;
 use std::rt::Files;
 
-// A folder's name and a file's in it, as far as there is room. What is no text names no file.
-fn path<'a>(room: &'a mut [u8], folder: &[u8], file: &[u8]) -> &'a str {
+// A folder's name and a file's in it, as far as there is room.
+fn path<'a>(room: &'a mut [u8], folder: &[u8], file: &[u8]) -> &'a [u8] {
     let at = text::word(folder, room, 0);
     let end = text::word(file, room, at).min(room.len());
-    str::from_utf8(&room[..end]).unwrap_or("")
+    &room[..end]
 }
 
 fn tell(rt: &(impl Files + Print + Eprint), name: &[u8]) {
