@@ -13,6 +13,7 @@ use rolls::{first_bad, left_over, records, valid_record};
 use rules::{Plan, Record, Verdict, Yard};
 
 // Is this state refused under this plan? The plan's own refusals (1 to 9), then 11 at 0.
+#[tactic(auto, unfolding(rules::specs::Verdict::first_refusal, rules::specs::Yard::state_verdict))]
 fn state_verdict(p: Plan, y: Yard) -> Verdict
     ensures { result ≡ first_refusal (plan_verdict p ∷ state_verdict p y ∷ []) }
 {
