@@ -104,6 +104,7 @@ fn in_fall_back(t: Terms, approved: bool, last: Letter, clock: u16, lease: u32) 
     stays(Base::FallBack, clock, lease)
 }
 
+#[tactic(auto, unfolding(rules::specs::Tick::Step3::in_lease))]
 fn in_lease(
     t: Terms,
     approved: bool,

@@ -167,6 +167,7 @@ fn unused_line(s: Slot) -> u8
 }
 
 // The same at the slot with k slots before it.
+#[tactic(auto, unfolding(crate::specs::Lines::slot_line))]
 pub fn slot_line(k: u8, n: u16, w: u16, ls: u32, s: Slot, next: Slot) -> u8
     ensures { result ≡ slot_line k n w ls s next }
 {

@@ -138,6 +138,7 @@ fn heed(s: Slot, command: u8, d: Device) -> Device
 }
 
 // Step 2 of one device: by Q, its slot, whether it is the initializer, and the tick's command.
+#[tactic(auto, unfolding(rules::specs::Tick::Step2::moved))]
 pub fn moved(q: u16, s: Slot, initializer: bool, command: u8, d: Device) -> Device
     ensures { result ≡ step2.moved q s initializer command d }
 {

@@ -23,6 +23,7 @@ fn last_ten(len: usize) -> Piece
 }
 
 // The refused piece of a file that is refused with this number.
+#[tactic(auto, unfolding(finder_rules::specs::Piece::file_start, finder_rules::specs::Piece::file_length))]
 fn file_piece(file: &[u8], number: u8) -> Piece
     ensures { result ≡ InFile (file_start file.now number) (file_length file.now number) }
 {

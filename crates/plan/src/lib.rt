@@ -20,6 +20,7 @@ fn place_after(k: usize) -> usize
 }
 
 // The verdict on a plan: accepted, or the first line of the table that it breaks, with that line's lowest index.
+#[tactic(auto, using(crate::proofs::Verdict::ends_accepted, crate::proofs::Verdict::ends_refused))]
 pub fn check(p: Plan) -> Verdict
     ensures { result ≡ plan_verdict p }
 {

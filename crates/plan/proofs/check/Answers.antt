@@ -3,7 +3,7 @@ use Prim.Native.Nat.{ℕ, suc}
 use native.Mathlib.Omega.{arith}
 use mathlib.Core.Path.{◌≡◌, refl, ◌∙◌}
 use Rattle.plan.proofs.Least.{least, least_at, less, no_less}
-use Rattle.plan.proofs.Verdict.{found, ends_accepted, ends_refused}
+use Rattle.plan.proofs.Verdict.{found}
 use Rattle.plan.proofs.check.Goals as goal
 use Rattle.plan.proofs.check.Goals.{then-found-line, else-found-line}
 
@@ -27,15 +27,3 @@ loop-k-preserved c =
       | else-found-line w ↦
           let l = no_less f k _ _ _ here inv.1 inv.2 w.if-found-line.false in (omega arith, w.line-is ∙ l.0, w.at-is ∙ l.1)
     ]
-
-pub returns-then-line-eq10 : goal.returns-then-line-eq10
-returns-then-line-eq10 c =
-    let inv = c.loop-k.invariant in
-    ends_accepted c.args.p _ _ _ _ _ c.lease_length-ls.ensures c.yard_line-line.ensures
-    (omega arith) inv.1 inv.2 c.if-line-eq10.true
-
-pub returns : goal.returns
-returns c =
-    let inv = c.loop-k.invariant in
-    ends_refused c.args.p _ _ _ _ _ c.lease_length-ls.ensures c.yard_line-line.ensures
-    (omega arith) inv.1 inv.2 c.if-line-eq10.false
