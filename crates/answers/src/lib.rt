@@ -6,7 +6,7 @@ ghost use Rattle.exports_rules.specs.Asked.{size_verdict};
 ghost use Rattle.exports_rules.specs.Calls.{Answered, which_of, start_of, length_of};
 
 use finder_rules::Piece;
-use rules::Verdict;
+use rules::{Refusal, Verdict};
 use vocabulary::{index_of, number_of};
 
 // A plan or a yard was lent at another length than its own.
@@ -14,12 +14,12 @@ pub fn size_verdict(fits: bool) -> Verdict
     ensures { result ≡ size_verdict fits }
 {
     if !fits {
-        return Verdict::Refused {
+        return Err(Refusal {
             number: 27,
             index: 0,
-        };
+        });
     }
-    Verdict::Accepted
+    Ok(())
 }
 
 // The number is answered, the index goes behind the reference.

@@ -3,7 +3,7 @@
 #![tactic(auto)]
 
 ghost use Rattle.std.specs.Prelude.{◌≡◌, length, take};
-ghost use Rattle.rules.specs.declared.Verdict.TheVariants.{Accepted};
+ghost use Rattle.rules.specs.Verdict.{Accepted};
 ghost use Rattle.planfile_rules.specs.File.{whole_plan};
 ghost use Rattle.planfile_rules.specs.Writing.{ReadAs};
 ghost use Rattle.exports_rules.specs.Asked.{KeptBy, check_for, fresh_for, tick_for, run_for, engaged_for, read_for, write_for, file_for, list_for, text_for};
@@ -18,10 +18,7 @@ use rules::{Down, FreshAnswer, Record, RunAnswer, TickAnswer, Verdict};
 pub fn check_for(plan: &[u8]) -> Verdict
     ensures { result ≡ check_for plan.now }
 {
-    let size = size_verdict(plan.len() == PLAN_SIZE);
-    let Verdict::Accepted = size else {
-        return size;
-    };
+    size_verdict(plan.len() == PLAN_SIZE)?;
     plan::check(bodies::whole_plan(plan))
 }
 
@@ -31,7 +28,7 @@ pub fn fresh_for(plan: &[u8], room: usize) -> FreshAnswer
     let a = yard::fresh(bodies::whole_plan(plan));
     let yard = a.yard;
     let size = size_verdict((plan.len() == PLAN_SIZE) & (room == YARD_SIZE));
-    let Verdict::Accepted = size else {
+    let Ok(()) = size else {
         return FreshAnswer {
             verdict: size,
             yard,
@@ -46,7 +43,7 @@ pub fn tick_for(plan: &[u8], bytes: &[u8], r: Record) -> TickAnswer
     let p = bodies::whole_plan(plan);
     let yard = yard_reading::read(bytes);
     let size = size_verdict((plan.len() == PLAN_SIZE) & (bytes.len() == YARD_SIZE));
-    let Verdict::Accepted = size else {
+    let Ok(()) = size else {
         return TickAnswer {
             verdict: size,
             yard,
@@ -70,7 +67,7 @@ pub fn run_for(
     let p = bodies::whole_plan(plan);
     let yard = yard_reading::read(bytes);
     let size = size_verdict((plan.len() == PLAN_SIZE) & (bytes.len() == YARD_SIZE));
-    let Verdict::Accepted = size else {
+    let Ok(()) = size else {
         return RunAnswer {
             verdict: size,
             yard,
@@ -86,7 +83,7 @@ pub fn read_for(file: &[u8], room: usize) -> ReadAnswer
     let a = planfile::read(file);
     let plan = a.plan;
     let size = size_verdict(room == PLAN_SIZE);
-    let Verdict::Accepted = size else {
+    let Ok(()) = size else {
         return ReadAnswer {
             verdict: size,
             plan,
@@ -102,7 +99,7 @@ pub fn write_for(plan: &[u8], file: &mut [u8]) -> WriteAnswer
 {
     let p = bodies::whole_plan(plan);
     let size = size_verdict(plan.len() == PLAN_SIZE);
-    let Verdict::Accepted = size else {
+    let Ok(()) = size else {
         return WriteAnswer {
             verdict: size,
             length: 0,
@@ -118,7 +115,7 @@ pub fn list_for(plan: &[u8], bytes: &[u8], roll: &[u8], first: u32, out: &mut [u
     let p = bodies::whole_plan(plan);
     let yard = yard_reading::read(bytes);
     let size = size_verdict((plan.len() == PLAN_SIZE) & (bytes.len() == YARD_SIZE));
-    let Verdict::Accepted = size else {
+    let Ok(()) = size else {
         return Listed {
             verdict: size,
             yard,

@@ -73,15 +73,15 @@ pub fn bytes(input: &mut impl Read, buffer: &mut [u8]) -> Number {
 
 fn number_of(v: Verdict) -> usize {
     match v {
-        Verdict::Accepted => 0,
-        Verdict::Refused { number, index: _ } => long_byte(number),
+        Ok(()) => 0,
+        Err(refusal) => long_byte(refusal.number),
     }
 }
 
 fn index_of(v: Verdict) -> usize {
     match v {
-        Verdict::Accepted => 0,
-        Verdict::Refused { number: _, index } => index,
+        Ok(()) => 0,
+        Err(refusal) => refusal.index,
     }
 }
 

@@ -1,6 +1,6 @@
 // What a call leaves in the yard's or the plan's bytes: something new only where nothing is refused.
 ghost use Rattle.std.specs.Prelude.{◌≡◌, length};
-ghost use Rattle.rules.specs.declared.Verdict.TheVariants.{Accepted};
+ghost use Rattle.rules.specs.Verdict.{Accepted};
 ghost use Rattle.rules.specs.Verdict.{if_accepted};
 ghost use Rattle.planfile_rules.specs.File.{plan_size};
 ghost use Rattle.planfile_rules.specs.Writing.{plan_bytes};
@@ -13,7 +13,7 @@ pub(crate) fn keep_yard(v: Verdict, y: Yard, bytes: &mut [u8])
     requires { v ≡ Accepted → length bytes.old ≡ yard_size }
     ensures { bytes.new ≡ if_accepted v (yard_bytes y) bytes.old }
 {
-    let Verdict::Accepted = v else {
+    let Ok(()) = v else {
         return;
     };
     layout::yard::put(y, bytes);
@@ -24,7 +24,7 @@ pub(crate) fn keep_plan(v: Verdict, p: Plan, bytes: &mut [u8])
     requires { v ≡ Accepted → length bytes.old ≡ plan_size }
     ensures { bytes.new ≡ if_accepted v (plan_bytes p) bytes.old }
 {
-    let Verdict::Accepted = v else {
+    let Ok(()) = v else {
         return;
     };
     bodies::put_whole_plan(p, bytes);

@@ -15,8 +15,8 @@ use Rattle.rules.specs.declared.Down.TheVariants as down
 use Rattle.rules.specs.declared.FreshAnswer.{FreshAnswer}
 use Rattle.rules.specs.declared.TickAnswer.{TickAnswer}
 use Rattle.rules.specs.declared.RunAnswer.{RunAnswer}
-use Rattle.rules.specs.declared.Verdict.{Verdict}
-use Rattle.rules.specs.declared.Verdict.TheVariants.{Accepted, Refused}
+use Rattle.rules.specs.Verdict.{Verdict}
+use Rattle.rules.specs.Verdict.{Accepted, Refused}
 use Rattle.rules.specs.Verdict.{if_accepted}
 use Rattle.rules.specs.Table.{plan_verdict}
 use Rattle.rules.specs.Yard.{fresh_yard, fresh_answer}

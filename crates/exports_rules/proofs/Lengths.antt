@@ -6,7 +6,7 @@ use mathlib.Core.List.{List}
 use lib.ListN.{length}
 use borrow.Author.Tests.{eqb-true}
 use Rattle.laws.proofs.Tests.{case}
-use Rattle.rules.specs.declared.Verdict.TheVariants.{Accepted}
+use Rattle.rules.specs.Verdict.{Accepted}
 use Rattle.rules.specs.declared.Down.TheVariants as down
 use Rattle.rules.specs.declared.Record.{Record}
 use Rattle.rules.specs.declared.FreshAnswer.{FreshAnswer}

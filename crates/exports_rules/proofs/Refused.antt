@@ -5,8 +5,8 @@ use mathlib.Core.Path.{◌≡◌, refl, ◌∙◌}
 use mathlib.Core.List.{List}
 use lib.ListN.{length}
 use Rattle.laws.proofs.Tests.{case}
-use Rattle.rules.specs.declared.Verdict.{Verdict}
-use Rattle.rules.specs.declared.Verdict.TheVariants.{Accepted, Refused}
+use Rattle.rules.specs.Verdict.{Verdict}
+use Rattle.rules.specs.Verdict.{Accepted, Refused}
 use Rattle.rules.specs.declared.Down.TheVariants as down
 use Rattle.rules.specs.declared.Record.{Record}
 use Rattle.rules.specs.Verdict.{number_of}

@@ -10,8 +10,8 @@ use borrow.Author.Tests.{eqb-true, le-leb}
 use Rattle.laws.proofs.Tests.{and_hold}
 use Rattle.rules.specs.declared.Plan.{Plan}
 use Rattle.rules.specs.declared.Yard.{Yard}
-use Rattle.rules.specs.declared.Verdict.{Verdict}
-use Rattle.rules.specs.declared.Verdict.TheVariants.{Accepted}
+use Rattle.rules.specs.Verdict.{Verdict}
+use Rattle.rules.specs.Verdict.{Accepted}
 use Rattle.rules.specs.Verdict.{if_accepted}
 use Rattle.rules.proofs.Answers.{not_both}
 use Rattle.planfile_rules.specs.Writing.{plan_bytes, plan_written}

@@ -9,8 +9,8 @@ use lib.Dec.{ltb}
 use lib.ListN.{length}
 use Rattle.laws.proofs.Tests.{case, clash}
 use Rattle.rules.specs.declared.Plan.{Plan}
-use Rattle.rules.specs.declared.Verdict.{Verdict}
-use Rattle.rules.specs.declared.Verdict.TheVariants.{Accepted}
+use Rattle.rules.specs.Verdict.{Verdict}
+use Rattle.rules.specs.Verdict.{Accepted}
 use Rattle.rules.specs.Verdict.{number_of, if_accepted}
 use Rattle.rules.specs.Table.{broken, table, plan_verdict}
 use Rattle.rules.proofs.Answers.{by_verdict, not_both}

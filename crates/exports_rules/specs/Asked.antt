@@ -1,7 +1,7 @@
 -- Document 01's calls, asked of plans and yards that are lent as bytes: the answers before they cross.
 use Rattle.std.specs.Prelude.{ℕ, ◌≡◌, Bool, not, ◌&&◌, List, eqb, length}
-use Rattle.rules.specs.declared.Verdict.{Verdict}
-use Rattle.rules.specs.declared.Verdict.TheVariants.{Accepted}
+use Rattle.rules.specs.Verdict.{Verdict}
+use Rattle.rules.specs.Verdict.{Accepted}
 use Rattle.rules.specs.declared.Down.TheVariants as down
 use Rattle.rules.specs.declared.Record.{Record}
 use Rattle.rules.specs.declared.FreshAnswer.{FreshAnswer}

@@ -1,7 +1,7 @@
 -- What a caller sees of each call: the number that it answers, the numbers behind its references, and every lent buffer
 -- afterwards. A call that refuses changes no byte of a lent buffer.
 use Rattle.std.specs.Prelude.{ℕ, ◌≡◌, List, length, take}
-use Rattle.rules.specs.declared.Verdict.{Verdict}
+use Rattle.rules.specs.Verdict.{Verdict}
 use Rattle.rules.specs.declared.Record.{Record}
 use Rattle.rules.specs.Verdict.{number_of, index_of, if_accepted}
 use Rattle.rules.specs.Yard.{fresh_yard}

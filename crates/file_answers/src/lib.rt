@@ -37,11 +37,8 @@ pub fn answer(v: Verdict, plan: Plan) -> ReadAnswer
 {
     let empty = empty_plan();
     match v {
-        Verdict::Accepted => ReadAnswer { verdict: v, plan },
-        Verdict::Refused {
-            number: _,
-            index: _,
-        } => ReadAnswer {
+        Ok(()) => ReadAnswer { verdict: v, plan },
+        Err(_) => ReadAnswer {
             verdict: v,
             plan: empty,
         },
@@ -56,20 +53,15 @@ fn room_verdict(n: u16, room: usize) -> Verdict
     if room < 18 + 12 * devices {
         return refusal(20);
     }
-    Verdict::Accepted
+    Ok(())
 }
 
 // The first of two verdicts that refuses.
 fn first_of(v: Verdict, w: Verdict) -> Verdict
     ensures { result ≡ first_of v w }
 {
-    match v {
-        Verdict::Accepted => w,
-        Verdict::Refused {
-            number: _,
-            index: _,
-        } => v,
-    }
+    v?;
+    w
 }
 
 pub fn write_verdict(p: Plan, room: usize) -> Verdict

@@ -8,7 +8,7 @@ ghost use Rattle.finder_rules.specs.Piece.{PartOf, Lies, file_start, file_length
 
 use finder_rules::Piece;
 use rolls::{RECORD_SIZE, first_bad, left_over, record_start, records};
-use rules::{Plan, Verdict};
+use rules::Plan;
 use vocabulary::number_of;
 
 // The last ten bytes of a file of len bytes; all of a shorter one.
@@ -63,7 +63,7 @@ pub fn locate(file: &[u8], roll: &[u8]) -> Piece
 {
     let answer = planfile::read(file);
     let verdict = answer.verdict;
-    let Verdict::Accepted = verdict else {
+    let Ok(()) = verdict else {
         return file_piece(file, number_of(verdict));
     };
     let p = answer.plan;

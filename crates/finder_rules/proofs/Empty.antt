@@ -8,8 +8,8 @@ use lib.Dec.{eqb, ltb}
 use lib.ListN.{length}
 use Rattle.laws.proofs.Tests.{tests, case}
 use Rattle.rules.specs.declared.Plan.{Plan}
-use Rattle.rules.specs.declared.Verdict.{Verdict}
-use Rattle.rules.specs.declared.Verdict.TheVariants.{Accepted}
+use Rattle.rules.specs.Verdict.{Verdict}
+use Rattle.rules.specs.Verdict.{Accepted}
 use Rattle.rules.specs.Run.{first_bad, left_over, records, length_verdict, records_verdict}
 use Rattle.rules.proofs.Answers.{by_verdict, accepted_if}
 use Rattle.planfile_rules.specs.File.{read_answer}

@@ -3,8 +3,8 @@
 use Rattle.std.specs.Prelude.{ℕ, ◌+◌, ◌-◌, ◌≤◌, min, ◌≡◌, not, cond, List, ltb, eqb, length, take, drop}
 use Rattle.std.specs.Borrow.{Bor}
 use Rattle.rules.specs.declared.Plan.{Plan}
-use Rattle.rules.specs.declared.Verdict.{Verdict}
-use Rattle.rules.specs.declared.Verdict.TheVariants.{Accepted, Refused}
+use Rattle.rules.specs.Verdict.{Verdict}
+use Rattle.rules.specs.Verdict.{Accepted, Refused}
 use Rattle.rules.specs.Run.{record_size, records, left_over, record_start, first_bad}
 use Rattle.planfile_rules.specs.File.{body_span, read_answer}
 use Rattle.finder_rules.specs.declared.Piece.{Piece}

@@ -1,7 +1,7 @@
 -- What is proved of the finder's definitions, each under the name that stands beside it.
 use Rattle.std.specs.Prelude.{ℕ, ◌≡◌, ◌↔◌, List, length}
 use Rattle.std.specs.Borrow.{Bor}
-use Rattle.rules.specs.declared.Verdict.TheVariants.{Accepted}
+use Rattle.rules.specs.Verdict.{Accepted}
 use Rattle.rules.specs.Run.{length_verdict, records_verdict}
 use Rattle.planfile_rules.specs.File.{read_answer}
 use Rattle.finder_rules.specs.declared.Piece.{Piece}

@@ -10,7 +10,7 @@ ghost use Rattle.listing_rules.specs.Listing.{header_written, header_buffer, lis
 use line::header_line;
 use lines::lines;
 use listing_rules::Listed;
-use rules::{Plan, Verdict, Yard};
+use rules::{Plan, Yard};
 
 // No line is longer, the header neither: one is begun only where so many bytes of room are left.
 pub const LINE_ROOM: usize = 64;
@@ -44,7 +44,7 @@ pub fn list(p: Plan, y: Yard, roll: &[u8], first: u32, out: &mut [u8]) -> Listed
     ensures out_after { out.new ≡ list_buffer p y roll.now first out.old }
 {
     let verdict = refusals::roll_verdict(p, y, roll);
-    let Verdict::Accepted = verdict else {
+    let Ok(()) = verdict else {
         return Listed {
             verdict,
             yard: y,

@@ -1,6 +1,6 @@
 // The lines of a roll, tick after tick.
 ghost use Rattle.std.specs.Prelude.{◌≡◌, length};
-ghost use Rattle.rules.specs.declared.Verdict.TheVariants.{Accepted};
+ghost use Rattle.rules.specs.Verdict.{Accepted};
 ghost use Rattle.rules.specs.Tick.Input.{down_lost};
 ghost use Rattle.rules.specs.Run.{roll_verdict};
 ghost use Rattle.listing_rules.specs.Listing.{list_answer, list_buffer};
@@ -9,7 +9,7 @@ use crate::{LINE_ROOM, Listed};
 use line::line;
 use numbers::widths::long;
 use rolls::{record_at, records};
-use rules::{Plan, Record, Verdict, Yard};
+use rules::{Plan, Record, Yard};
 
 fn down_lost(r: Record) -> bool
     ensures { result ≡ down_lost r }
@@ -37,7 +37,7 @@ pub(crate) fn lines(p: Plan, y: Yard, roll: &[u8], first: u32, out: &mut [u8]) -
         k += 1;
     }
     Listed {
-        verdict: Verdict::Accepted,
+        verdict: Ok(()),
         yard,
         ticks: k,
         length: at,

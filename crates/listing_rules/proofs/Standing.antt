@@ -16,7 +16,7 @@ use Rattle.rules.specs.declared.Plan.{Plan}
 use Rattle.rules.specs.declared.Yard.{Yard}
 use Rattle.rules.specs.declared.Record.{Record}
 use Rattle.rules.specs.declared.TickAnswer.{TickAnswer}
-use Rattle.rules.specs.declared.Verdict.TheVariants.{Accepted}
+use Rattle.rules.specs.Verdict.{Accepted}
 use Rattle.rules.specs.Tick.{tick_answer}
 use Rattle.rules.specs.Tick.Input.{down_lost}
 use Rattle.rules.specs.Run.{records, record_at, after, roll_verdict}

@@ -6,7 +6,7 @@ use Rattle.rules.specs.declared.Plan.{Plan}
 use Rattle.rules.specs.declared.Yard.{Yard}
 use Rattle.rules.specs.declared.Down.{Down}
 use Rattle.rules.specs.declared.Down.TheVariants as down
-use Rattle.rules.specs.declared.Verdict.TheVariants.{Accepted}
+use Rattle.rules.specs.Verdict.{Accepted}
 use Rattle.rules.specs.Numbers.{base_index, down_index}
 use Rattle.rules.specs.Run.{record_start, after, engaged_byte, roll_verdict}
 use Rattle.text_rules.specs.Decimal.{decimal}

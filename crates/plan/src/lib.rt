@@ -10,7 +10,7 @@ ghost use Rattle.plan.specs.Places.{place_after};
 
 use conditions::{slot_line, yard_line};
 use lease::lease_length;
-use rules::{Plan, Verdict};
+use rules::{Plan, Refusal, Verdict};
 
 // The place of the slot after the one at place k; the last has none, and stands for itself.
 fn place_after(k: usize) -> usize
@@ -41,10 +41,10 @@ pub fn check(p: Plan) -> Verdict
         k += 1;
     }
     if line == 10 {
-        return Verdict::Accepted;
+        return Ok(());
     }
-    Verdict::Refused {
+    Err(Refusal {
         number: line,
         index: at,
-    }
+    })
 }

@@ -6,7 +6,7 @@
 #![tactic(auto)]
 
 ghost use Rattle.std.specs.Prelude.{◌≡◌, ◌+◌, ◌*◌, ◌≤◌, length, take};
-ghost use Rattle.rules.specs.declared.Verdict.TheVariants as verdict;
+ghost use Rattle.rules.specs.Verdict as verdict;
 ghost use Rattle.planfile_rules.specs.File.{plan_in, body_verdict, answer_of, read_answer, body_span};
 ghost use Rattle.planfile_rules.specs.Writing.{file_bytes, write_answer, write_buffer, ReadAs, WithoutNotes};
 
@@ -14,7 +14,7 @@ use bodies::{plan_in, put_body};
 use file_answers::{answer, empty_plan, write_verdict};
 use numbers::read::two_at;
 use planfile_rules::{ReadAnswer, Span, WriteAnswer};
-use rules::{Plan, Verdict};
+use rules::Plan;
 use trailer::{devices_for, judge, put_trailer, refusal, trailer_for, trailer_of};
 
 // The verdict on a body that has room for n devices, beside its plan.
@@ -40,7 +40,7 @@ pub fn read(file: &[u8]) -> ReadAnswer
     let len = file.len();
     let t = trailer_of(file);
     let v = judge(len, t);
-    let Verdict::Accepted = v else {
+    let Ok(()) = v else {
         return answer(v, empty_plan());
     };
     let size = t.size as usize;
@@ -57,7 +57,7 @@ pub fn body_span(file: &[u8]) -> Span
     let len = file.len();
     let t = trailer_of(file);
     let v = judge(len, t);
-    let Verdict::Accepted = v else {
+    let Ok(()) = v else {
         return Span { start: 0, len: 0 };
     };
     let size = t.size as usize;
@@ -77,7 +77,7 @@ pub fn write(p: Plan, file: &mut [u8]) -> WriteAnswer
     ensures read_as { result.verdict ≡ verdict.Accepted → ReadAs (take result.length file.new) p }
 {
     let v = write_verdict(p, file.len());
-    let Verdict::Accepted = v else {
+    let Ok(()) = v else {
         return WriteAnswer {
             verdict: v,
             length: 0,

@@ -13,7 +13,7 @@ use borrow.Author.Tests.{eqb-true, not-false}
 use Rattle.laws.proofs.Lists.{parts_join}
 use Rattle.numbers.specs.Bytes.{num16, AllBytes}
 use Rattle.numbers.proofs.Back.{two_given, four_given, drop_small, part_small}
-use Rattle.rules.specs.declared.Verdict.TheVariants.{Accepted}
+use Rattle.rules.specs.Verdict.{Accepted}
 use Rattle.rules.specs.Verdict.{refused_if}
 use Rattle.rules.proofs.Answers.{accepted_if, first_accepted}
 use Rattle.planfile_rules.specs.declared.Trailer.{Trailer}

@@ -10,8 +10,8 @@ use lib.ListN.{length}
 use borrow.Author.Tests.{eqb-true, leb-true, le-leb}
 use Rattle.laws.proofs.Tests.{tests, case, clash, all_of_lem}
 use Rattle.rules.specs.declared.Plan.{Plan}
-use Rattle.rules.specs.declared.Verdict.{Verdict}
-use Rattle.rules.specs.declared.Verdict.TheVariants.{Refused}
+use Rattle.rules.specs.Verdict.{Verdict}
+use Rattle.rules.specs.Verdict.{Refused}
 use Rattle.rules.specs.Verdict.{refused_if, first_of, first_refusal}
 use Rattle.rules.specs.Table.{line1, table, broken, plan_verdict}
 use Rattle.rules.proofs.Answers.{by_verdict, not_both, refused_if_lem}

@@ -6,7 +6,7 @@ use mathlib.Core.Bool.{true, ◌&&◌}
 use lib.Dec.{leb, ltb, eqb}
 use borrow.Author.Tests.{ltb-false, leb-true, eqb-true, le-ltb, le-leb, eq-eqb, not-false}
 use Rattle.laws.proofs.Tests.{and_hold, and_of, or_none, or_of}
-use Rattle.rules.specs.declared.Verdict.TheVariants.{Accepted}
+use Rattle.rules.specs.Verdict.{Accepted}
 use Rattle.rules.specs.Verdict.{first_refusal}
 use Rattle.rules.proofs.Answers.{accepted_if, first_accepted}
 use Rattle.planfile_rules.specs.declared.Trailer.{Trailer}

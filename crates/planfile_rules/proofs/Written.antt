@@ -11,8 +11,8 @@ use Rattle.laws.proofs.Writes.{at_front}
 use Rattle.numbers.specs.Bytes.{num16, num32, two_bytes, four_bytes}
 use Rattle.numbers.proofs.Back.{two_back, four_back}
 use Rattle.rules.specs.declared.Plan.{Plan}
-use Rattle.rules.specs.declared.Verdict.{Verdict}
-use Rattle.rules.specs.declared.Verdict.TheVariants.{Accepted, Refused}
+use Rattle.rules.specs.Verdict.{Verdict}
+use Rattle.rules.specs.Verdict.{Accepted, Refused}
 use Rattle.rules.specs.Table.{plan_verdict}
 use Rattle.rules.proofs.Answers.{accepted_if, first_accepted}
 use Rattle.rules.proofs.Plans.Accepted.{accepted_exactly}

@@ -4,7 +4,7 @@ use Rattle.std.specs.Prelude.{ℕ, ◌+◌, ◌-◌, ◌*◌, ◌/◌, Bool, not
 use Rattle.laws.specs.Lists.{tabulate, swept}
 use Rattle.rules.specs.declared.Plan.{Plan}
 use Rattle.rules.specs.declared.Slot.{Slot}
-use Rattle.rules.specs.declared.Verdict.{Verdict}
+use Rattle.rules.specs.Verdict.{Verdict}
 use Rattle.rules.specs.Verdict.{if_accepted, refused_if, first_of, first_refusal}
 use Rattle.rules.specs.Plan.{empty_slot}
 use Rattle.rules.specs.Table.{plan_verdict}

@@ -3,7 +3,7 @@
 use Rattle.std.specs.Prelude.{ℕ, ◌+◌, ◌-◌, ◌*◌, ◌≤◌, ◌<◌, ◌≡◌, ◌↔◌, ◌⊎◌, List, length, take, get_or}
 use Rattle.numbers.specs.Bytes.{AllBytes}
 use Rattle.rules.specs.declared.Plan.{Plan}
-use Rattle.rules.specs.declared.Verdict.TheVariants.{Accepted, Refused}
+use Rattle.rules.specs.Verdict.{Accepted, Refused}
 use Rattle.rules.specs.Plan.{slot, empty_slot}
 use Rattle.rules.specs.Table.{plan_verdict}
 use Rattle.rules.specs.Worked.{P, laser}

@@ -5,8 +5,8 @@ use Rattle.laws.specs.Lists.{joined}
 use Rattle.numbers.specs.Bytes.{two_bytes, four_bytes}
 use Rattle.rules.specs.declared.Plan.{Plan}
 use Rattle.rules.specs.declared.Slot.{Slot}
-use Rattle.rules.specs.declared.Verdict.{Verdict}
-use Rattle.rules.specs.declared.Verdict.TheVariants.{Accepted}
+use Rattle.rules.specs.Verdict.{Verdict}
+use Rattle.rules.specs.Verdict.{Accepted}
 use Rattle.rules.specs.Verdict.{if_accepted, refused_if, first_of}
 use Rattle.rules.specs.Plan.{empty_slot}
 use Rattle.rules.specs.Table.{plan_verdict}

@@ -1,7 +1,7 @@
 -- What keeps the definitions honest, each statement proved in proofs/ under the name that stands beside it.
 use Rattle.std.specs.Prelude.{◌≡◌, map, length}
 use Rattle.rules.specs.declared.Plan.{Plan}
-use Rattle.rules.specs.declared.Verdict.TheVariants.{Accepted}
+use Rattle.rules.specs.Verdict.{Accepted}
 use Rattle.rules.specs.Table.{plan_verdict}
 use Rattle.rules.specs.Worked.{P}
 use Rattle.plantext_rules.specs.Text.{plan_text}

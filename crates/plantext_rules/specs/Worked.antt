@@ -1,8 +1,8 @@
 -- Texts and what they are read as: plan P's, and one for each sentence of the grammar (docs/TEXT.md). The characters stand
 -- beside each text.
 use Rattle.std.specs.Prelude.{ℕ, List, [], ◌∷◌}
-use Rattle.rules.specs.declared.Verdict.{Verdict}
-use Rattle.rules.specs.declared.Verdict.TheVariants.{Accepted, Refused}
+use Rattle.rules.specs.Verdict.{Verdict}
+use Rattle.rules.specs.Verdict.{Accepted, Refused}
 use Rattle.plantext_rules.specs.Reading.{text_answer}
 
 pub record Case : Type 0 where

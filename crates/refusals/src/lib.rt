@@ -10,41 +10,35 @@ ghost use Rattle.rules.specs.Tick.{tick_verdict};
 ghost use Rattle.rules.specs.Run.{roll_verdict};
 
 use rolls::{first_bad, left_over, records, valid_record};
-use rules::{Plan, Record, Verdict, Yard};
+use rules::{Plan, Record, Refusal, Verdict, Yard};
 
 // Is this state refused under this plan? The plan's own refusals (1 to 9), then 11 at 0.
 #[tactic(auto, unfolding(rules::specs::Verdict::first_refusal, rules::specs::Yard::state_verdict))]
 fn state_verdict(p: Plan, y: Yard) -> Verdict
     ensures { result ≡ first_refusal (plan_verdict p ∷ state_verdict p y ∷ []) }
 {
-    let plan = plan::check(p);
-    let Verdict::Accepted = plan else {
-        return plan;
-    };
+    plan::check(p)?;
     if !state::well_formed(p, y) {
-        return Verdict::Refused {
+        return Err(Refusal {
             number: 11,
             index: 0,
-        };
+        });
     }
-    Verdict::Accepted
+    Ok(())
 }
 
 // Is this tick refused? Plan (1 to 9), state (11 at 0), record (10 at 1).
 pub fn tick_verdict(p: Plan, y: Yard, r: Record) -> Verdict
     ensures { result ≡ tick_verdict p y r }
 {
-    let state = state_verdict(p, y);
-    let Verdict::Accepted = state else {
-        return state;
-    };
+    state_verdict(p, y)?;
     if !valid_record(p, r) {
-        return Verdict::Refused {
+        return Err(Refusal {
             number: 10,
             index: 1,
-        };
+        });
     }
-    Verdict::Accepted
+    Ok(())
 }
 
 // Is this roll refused? Plan (1 to 9), state (11 at 0), the roll's length (12 at 0), its first bad record (10 at its number
@@ -53,39 +47,33 @@ pub fn tick_verdict(p: Plan, y: Yard, r: Record) -> Verdict
 pub fn roll_verdict(p: Plan, y: Yard, roll: &[u8]) -> Verdict
     ensures { result ≡ roll_verdict p y roll.now }
 {
-    let state = state_verdict(p, y);
-    let Verdict::Accepted = state else {
-        return state;
-    };
+    state_verdict(p, y)?;
     if left_over(roll) != 0 {
-        return Verdict::Refused {
+        return Err(Refusal {
             number: 12,
             index: 0,
-        };
+        });
     }
     let bad = first_bad(p, roll);
     if bad < records(roll) {
-        return Verdict::Refused {
+        return Err(Refusal {
             number: 10,
             index: bad + 1,
-        };
+        });
     }
-    Verdict::Accepted
+    Ok(())
 }
 
 // Is this run refused? As its roll is, then 13 at 0 where `room`, the buffer's length, is too little for the ticks to do.
 pub fn run_verdict(p: Plan, y: Yard, roll: &[u8], ticks: usize, room: usize) -> Verdict
     ensures { result ≡ first_refusal (roll_verdict p y roll.now ∷ refused_if (ltb room ticks) 13 0 ∷ []) }
 {
-    let verdict = roll_verdict(p, y, roll);
-    let Verdict::Accepted = verdict else {
-        return verdict;
-    };
+    roll_verdict(p, y, roll)?;
     if room < ticks {
-        return Verdict::Refused {
+        return Err(Refusal {
             number: 13,
             index: 0,
-        };
+        });
     }
-    Verdict::Accepted
+    Ok(())
 }

@@ -8,7 +8,7 @@ mod files;
 mod trouble;
 
 use files::load;
-use rules::{Plan, Verdict, Yard};
+use rules::{Plan, Refusal, Yard};
 use std::io;
 use std::rt::Files;
 use trouble::tell;
@@ -51,7 +51,8 @@ fn say_header(rt: &impl Print, n: u16) -> io::Result<()> {
     say_first(rt, &block, len)
 }
 
-fn refuse(rt: &impl Print, number: u8, index: usize) -> io::Result<()> {
+fn refuse(rt: &impl Print, refusal: Refusal) -> io::Result<()> {
+    let Refusal { number, index } = refusal;
     println!(rt; "refused {number} {index}")
 }
 
@@ -59,8 +60,8 @@ fn refuse(rt: &impl Print, number: u8, index: usize) -> io::Result<()> {
 fn show_roll(rt: &impl Print, p: Plan, roll: &[u8]) -> io::Result<()> {
     let y = yard::fresh(p).yard;
     match refusals::roll_verdict(p, y, roll) {
-        Verdict::Refused { number, index } => refuse(rt, number, index),
-        Verdict::Accepted => {
+        Err(refusal) => refuse(rt, refusal),
+        Ok(()) => {
             say_header(rt, p.N)?;
             say_lines(rt, p, y, roll)
         }
@@ -70,8 +71,8 @@ fn show_roll(rt: &impl Print, p: Plan, roll: &[u8]) -> io::Result<()> {
 fn show(rt: &impl Print, file: &[u8], roll: &[u8]) -> io::Result<()> {
     let answer = planfile::read(file);
     match answer.verdict {
-        Verdict::Refused { number, index } => refuse(rt, number, index),
-        Verdict::Accepted => show_roll(rt, answer.plan, roll),
+        Err(refusal) => refuse(rt, refusal),
+        Ok(()) => show_roll(rt, answer.plan, roll),
     }
 }
 

@@ -1,28 +1,27 @@
 -- Laws of answers: which refusal of a list comes first.
 use Prim.Native.Nat.{ℕ, zero, suc, ◌≤◌, ◌<◌}
 use native.Mathlib.Omega.{arith}
-use mathlib.Core.Path.{◌≡◌, refl, sym, ◌∙◌}
+use mathlib.Core.Path.{◌≡◌, refl, sym, ◌∙◌, ap}
+use Rattle.std.specs.Prelude.{Ok, Err}
 use mathlib.Core.Bool.{Bool, true, false}
 use mathlib.Core.List.{List, [], ◌∷◌, ◌++◌}
 use lib.Dec.{eqb}
 use borrow.Author.Tests.{eqb-true}
 use Rattle.laws.specs.Lists.{tabulate}
 use Rattle.laws.proofs.Tests.{case, tests}
-use Rattle.rules.specs.declared.Verdict.{Verdict}
-use Rattle.rules.specs.declared.Verdict.TheVariants.{Accepted, Refused}
-use Rattle.rules.specs.Verdict.{refused_if, first_of, first_refusal}
+use Rattle.rules.specs.Verdict.{Verdict, Accepted, Refused, number_of, index_of, refused_if, first_of, first_refusal}
 
 -- An answer is an acceptance or a refusal, and never both.
 module _ {ℓ} {A : Type ℓ} where
   pub by_verdict : (v : Verdict) → (v ≡ Accepted → A) → ((k i : ℕ) → v ≡ Refused k i → A) → A
   by_verdict Accepted taken refused = taken refl
-  by_verdict (Refused k i) taken refused = refused k i refl
+  by_verdict (Err r) taken refused = refused r.number r.index refl
 
   pub not_both : {v : Verdict} {k i : ℕ} → v ≡ Accepted → v ≡ Refused k i → A
   not_both a r = let z : ◌≡◌ {A = ℕ} 0 1 = cc in absurd (omega arith)
 
 pub refused_if_lem : (b : Bool) (k i m j : ℕ) → refused_if b k i ≡ Refused m j → (b ≡ true) × (k ≡ m) × (i ≡ j)
-refused_if_lem true k i m j e = (refl, cc, cc)
+refused_if_lem true k i m j e = (refl, ap number_of e, ap index_of e)
 refused_if_lem false k i m j e = not_both refl e
 
 pub accepted_if : (b : Bool) (k i : ℕ) → refused_if b k i ≡ Accepted → b ≡ false
@@ -32,7 +31,7 @@ accepted_if false k i e = refl
 -- Two answers in a row.
 pub first_accepted : (v w : Verdict) → first_of v w ≡ Accepted → (v ≡ Accepted) × (w ≡ Accepted)
 first_accepted Accepted w e = (refl, e)
-first_accepted (Refused k i) w e = not_both e refl
+first_accepted (Err r) w e = not_both e refl
 
 -- The first refusal of two and then of the rest.
 pub two_then :
@@ -40,15 +39,15 @@ pub two_then :
     → first_refusal (a ∷ b ∷ vs) ≡ first_of v (first_refusal vs)
 unfolding first_refusal
 two_then Accepted Accepted vs e = rw e
-two_then Accepted (Refused k i) vs e = rw e
-two_then (Refused k i) b vs e = rw e
+two_then Accepted (Err r) vs e = rw e
+two_then (Err r) b vs e = rw e
 
 first_last : (vs : List Verdict) (v : Verdict) → first_refusal (vs ++ (v ∷ [])) ≡ first_of (first_refusal vs) v
 unfolding first_refusal
 first_last [] Accepted = refl
-first_last [] (Refused k i) = refl
+first_last [] (Err r) = refl
 first_last (Accepted ∷ vs) v = first_last vs v
-first_last (Refused k i ∷ vs) v = refl
+first_last (Err r ∷ vs) v = refl
 
 -- The first refusal among f 1 to f n, where a refusal by f k has the number k.
 module _ (f : ℕ → Verdict) where

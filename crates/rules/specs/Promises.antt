@@ -12,7 +12,7 @@ use Rattle.rules.specs.declared.Place.{Place}
 use Rattle.rules.specs.declared.Place.TheVariants as place
 use Rattle.rules.specs.declared.Letter.TheVariants as letter
 use Rattle.rules.specs.declared.Down.TheVariants as down
-use Rattle.rules.specs.declared.Verdict.TheVariants.{Accepted}
+use Rattle.rules.specs.Verdict.{Accepted}
 use Rattle.rules.specs.Plan.{slot, LS}
 use Rattle.rules.specs.Table.{plan_verdict}
 use Rattle.rules.specs.Yard.{device, engaged, fresh_yard}

@@ -5,7 +5,7 @@ use Rattle.laws.specs.Bits.{of_bits}
 use Rattle.rules.specs.declared.Plan.{Plan}
 use Rattle.rules.specs.declared.Yard.{Yard}
 use Rattle.rules.specs.declared.Record.{Record}
-use Rattle.rules.specs.declared.Verdict.{Verdict}
+use Rattle.rules.specs.Verdict.{Verdict}
 use Rattle.rules.specs.declared.RunAnswer.{RunAnswer}
 use Rattle.rules.specs.Verdict.{refused_if, first_refusal, if_accepted}
 use Rattle.rules.specs.Table.{plan_verdict}

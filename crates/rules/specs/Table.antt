@@ -4,7 +4,7 @@ use Rattle.std.specs.Prelude.{ℕ, zero, suc, ◌+◌, ◌-◌, ◌*◌, Bool, f
 use Rattle.laws.specs.Tests.{all_of, any_of, lowest}
 use Rattle.laws.specs.Lists.{tabulate}
 use Rattle.rules.specs.declared.Plan.{Plan}
-use Rattle.rules.specs.declared.Verdict.{Verdict}
+use Rattle.rules.specs.Verdict.{Verdict}
 use Rattle.rules.specs.Verdict.{refused_if, first_refusal}
 use Rattle.rules.specs.Plan.{slot, stay, LS, is_time, is_device, is_pair, is_above}
 

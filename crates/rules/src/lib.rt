@@ -27,16 +27,18 @@ pub struct Plan {
     pub slots: [Slot; 8],
 }
 
-// What a call answers of its input: taken, or refused with document 01's number and index. An index may be a record's
-// number in a roll of any length.
-#[derive(Clone, Copy)]
-pub enum Verdict {
-    Accepted,
-    Refused { number: u8, index: usize },
+// Why a call refuses its input: document 01's number and index. An index may be a record's number in a roll of any length.
+#[derive(Clone, Copy, Debug, PartialEq, Eq)]
+pub struct Refusal {
+    pub number: u8,
+    pub index: usize,
 }
 
+// What a call answers of its input: taken, or refused.
+pub type Verdict = Result<(), Refusal>;
+
 // Where the supervisor stands; the number is the device i of Lease i, Cancel i and Abort i, from 1.
-#[derive(Clone, Copy)]
+#[derive(Clone, Copy, Debug, PartialEq, Eq)]
 pub enum Base {
     FallBack,
     Lease(u8),
@@ -45,7 +47,7 @@ pub enum Base {
 }
 
 // Where a device stands. Only the initializer is ever in Requesting.
-#[derive(Clone, Copy)]
+#[derive(Clone, Copy, Debug, PartialEq, Eq)]
 pub enum Place {
     FallBack,
     Requesting,
@@ -56,7 +58,7 @@ pub enum Place {
 }
 
 // The letter that waits at a device to go up.
-#[derive(Clone, Copy)]
+#[derive(Clone, Copy, Debug, PartialEq, Eq)]
 pub enum Letter {
     None,
     Request,
@@ -95,7 +97,7 @@ pub struct Record {
 }
 
 // The letter that the supervisor sends down in a tick, with the device that it is for.
-#[derive(Clone, Copy)]
+#[derive(Clone, Copy, Debug, PartialEq, Eq)]
 pub enum Down {
     None,
     LeaseReq(u8),

@@ -71,20 +71,13 @@ fn base_formed(p: Plan, base: Base, clock: u16, lease: u32) -> bool
 fn same_place(a: Place, b: Place) -> bool
     ensures { result ≡ same_place a b }
 {
-    place_number(a) == place_number(b)
+    a == b
 }
 
 fn no_letter(l: Letter) -> bool
     ensures { result ≡ same_letter l letter.None }
 {
-    match l {
-        Letter::None => true,
-        Letter::Request => false,
-        Letter::Cancel => false,
-        Letter::Approve => false,
-        Letter::Deny => false,
-        Letter::Exit => false,
-    }
+    l == Letter::None
 }
 
 // The slot of device i, which callers keep within 1 to 8.

@@ -4,7 +4,7 @@
 
 ghost use Rattle.std.specs.Prelude.{◌≡◌, ◌+◌};
 ghost use Rattle.laws.specs.Written.{Written};
-ghost use Rattle.rules.specs.declared.Verdict.TheVariants as verdict;
+ghost use Rattle.rules.specs.Verdict as verdict;
 ghost use Rattle.planfile_rules.specs.File.{trailer_in, trailer_of, devices_for, is_body_size, trailer_verdict};
 ghost use Rattle.planfile_rules.specs.Writing.{trailer_bytes, trailer_for};
 
@@ -12,7 +12,7 @@ use numbers::read::{four_at, two_at};
 use numbers::widths::{broad, wide};
 use numbers::write::{put_four, put_two};
 use planfile_rules::Trailer;
-use rules::Verdict;
+use rules::{Refusal, Verdict};
 
 // The bytes 59 50 hex, little-endian.
 const MARK: u16 = 0x5059;
@@ -21,7 +21,7 @@ const MARK: u16 = 0x5059;
 pub fn refusal(number: u8) -> Verdict
     ensures { result ≡ verdict.Refused number 0 }
 {
-    Verdict::Refused { number, index: 0 }
+    Err(Refusal { number, index: 0 })
 }
 
 fn read_trailer(ten: &[u8]) -> Trailer
@@ -84,7 +84,7 @@ pub fn judge(len: usize, t: Trailer) -> Verdict
     if (back < size + 10) | (len < back) {
         return refusal(18);
     }
-    Verdict::Accepted
+    Ok(())
 }
 
 // The trailer of a file that is written for n devices.

@@ -6,11 +6,8 @@ use std::io::Read;
 // The verdict on a file, and where that is taken on a roll from a fresh yard, with nothing run.
 fn verdict(file: &[u8], roll: &[u8]) -> Verdict {
     let answer = planfile::read(file);
-    let v = answer.verdict;
+    answer.verdict?;
     let p = answer.plan;
-    let Verdict::Accepted = v else {
-        return v;
-    };
     let start = yard::fresh(p);
     let y = start.yard;
     refusals::roll_verdict(p, y, roll)

@@ -145,8 +145,8 @@ pub fn number_of(v: Verdict) -> u8
     ensures { result ≡ number_of v }
 {
     match v {
-        Verdict::Accepted => 0,
-        Verdict::Refused { number, index: _ } => number,
+        Ok(()) => 0,
+        Err(refusal) => refusal.number,
     }
 }
 
@@ -154,7 +154,7 @@ pub fn index_of(v: Verdict) -> usize
     ensures { result ≡ index_of v }
 {
     match v {
-        Verdict::Accepted => 0,
-        Verdict::Refused { number: _, index } => index,
+        Ok(()) => 0,
+        Err(refusal) => refusal.index,
     }
 }

@@ -3,7 +3,7 @@
 // Each line is number and index.
 #![tactic(auto)]
 
-use rules::{Plan, Slot, Verdict};
+use rules::{Plan, Refusal, Slot};
 
 fn times(F: u16, E: u16, R: u16, X: u16, G: u16, S: u16) -> Slot {
     Slot { F, E, R, X, G, S }
@@ -19,8 +19,8 @@ fn two(N: u16, W: u16, B: u16, Q: u16, one: Slot, other: Slot) -> Plan {
 
 fn tell(rt: &impl Print, p: Plan) {
     let (number, index) = match plan::check(p) {
-        Verdict::Accepted => (0, 0),
-        Verdict::Refused { number, index } => (number, index),
+        Ok(()) => (0, 0),
+        Err(Refusal { number, index }) => (number, index),
     };
     let _ = println!(rt; "{number} {index}");
 }

@@ -11,8 +11,8 @@ use Rattle.rules.specs.declared.Yard.{Yard}
 use Rattle.rules.specs.declared.Record.{Record}
 use Rattle.rules.specs.declared.Down.{Down}
 use Rattle.rules.specs.declared.Down.TheVariants as down
-use Rattle.rules.specs.declared.Verdict.{Verdict}
-use Rattle.rules.specs.declared.Verdict.TheVariants.{Accepted, Refused}
+use Rattle.rules.specs.Verdict.{Verdict}
+use Rattle.rules.specs.Verdict.{Accepted, Refused}
 use Rattle.rules.specs.declared.RunAnswer.{RunAnswer}
 use Rattle.rules.specs.Verdict.{refused_if, first_refusal}
 use Rattle.rules.specs.Table.{plan_verdict}

@@ -13,7 +13,7 @@ use Rattle.rules.specs.declared.Base.{Base}
 use Rattle.rules.specs.declared.Base.TheVariants as base
 use Rattle.rules.specs.declared.Place.{Place}
 use Rattle.rules.specs.declared.Place.TheVariants as place
-use Rattle.rules.specs.declared.Verdict.TheVariants.{Accepted}
+use Rattle.rules.specs.Verdict.{Accepted}
 use Rattle.rules.specs.Plan.{LS}
 use Rattle.rules.specs.Table.{plan_verdict}
 use Rattle.rules.specs.Yard.{device, fresh_device, well_formed}

@@ -9,7 +9,7 @@
 // Until its letter is up no device looks at another, so the loop goes from device to device, and not from step to step.
 ghost use Rattle.std.specs.Prelude.{◌≡◌, true, ◌++◌, ◌≤◌, length, drop};
 ghost use Rattle.laws.specs.Bits as bits;
-ghost use Rattle.rules.specs.declared.Verdict.TheVariants.{Accepted};
+ghost use Rattle.rules.specs.Verdict.{Accepted};
 ghost use Rattle.rules.specs.Plan.{terms};
 ghost use Rattle.rules.specs.Table.{plan_verdict};
 ghost use Rattle.rules.specs.Yard.{well_formed};

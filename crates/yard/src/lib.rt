@@ -7,7 +7,7 @@ mod engine;
 mod rising;
 
 ghost use Rattle.std.specs.Prelude.{◌≡◌};
-ghost use Rattle.rules.specs.declared.Verdict.TheVariants.{Accepted};
+ghost use Rattle.rules.specs.Verdict.{Accepted};
 ghost use Rattle.rules.specs.Table.{plan_verdict};
 ghost use Rattle.rules.specs.Yard.{fresh_yard, fresh_answer};
 ghost use Rattle.rules.specs.Tick.{tick_answer};
@@ -18,7 +18,7 @@ use device::fresh_device;
 use engine::roll_on;
 use refusals::{run_verdict, tick_verdict};
 use rolls::ticks_to_do;
-use rules::{Base, Down, FreshAnswer, Plan, Record, RunAnswer, TickAnswer, Verdict, Yard};
+use rules::{Base, Down, FreshAnswer, Plan, Record, RunAnswer, TickAnswer, Yard};
 
 fn fresh_yard() -> Yard
     ensures { result ≡ fresh_yard }
@@ -47,7 +47,7 @@ pub fn tick(p: Plan, y: Yard, r: Record) -> TickAnswer
     ensures { result ≡ tick_answer p y r }
 {
     let verdict = tick_verdict(p, y, r);
-    let Verdict::Accepted = verdict else {
+    let Ok(()) = verdict else {
         return TickAnswer {
             verdict,
             yard: y,
@@ -79,7 +79,7 @@ pub fn run(p: Plan, y: Yard, roll: &[u8], budget: usize, engaged: &mut [u8]) -> 
 {
     let ticks = ticks_to_do(roll, budget);
     let verdict = run_verdict(p, y, roll, ticks, engaged.len());
-    let Verdict::Accepted = verdict else {
+    let Ok(()) = verdict else {
         return RunAnswer {
             verdict,
             yard: y,

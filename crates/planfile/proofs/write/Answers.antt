@@ -6,8 +6,8 @@ use lib.ListN.{length}
 use Rattle.laws.specs.Written.{Written}
 use Rattle.laws.proofs.Writes.{as_text, and_then}
 use Rattle.rules.specs.declared.Plan.{Plan}
-use Rattle.rules.specs.declared.Verdict.{Verdict}
-use Rattle.rules.specs.declared.Verdict.TheVariants.{Accepted}
+use Rattle.rules.specs.Verdict.{Verdict}
+use Rattle.rules.specs.Verdict.{Accepted}
 use Rattle.rules.proofs.Answers.{not_both}
 use Rattle.planfile_rules.specs.Writing.{body_bytes, body_written, file_bytes, write_verdict}
 use Rattle.planfile_rules.proofs.Written.{nothing_written, few_devices, has_room, all_written}

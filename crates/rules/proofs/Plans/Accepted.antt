@@ -7,7 +7,7 @@ use lib.Dec.{leb, eqb}
 use borrow.Author.Tests.{leb-true, eqb-true, lt-ltb, le-leb, eq-eqb}
 use Rattle.laws.proofs.Tests.{tests, case, holds, NoneHolds, all_hold, all_of_lem, none_hold, none_of}
 use Rattle.rules.specs.declared.Plan.{Plan}
-use Rattle.rules.specs.declared.Verdict.TheVariants.{Accepted}
+use Rattle.rules.specs.Verdict.{Accepted}
 use Rattle.rules.specs.Plan.{slot, empty_slot, is_device, is_pair, is_above}
 use Rattle.rules.specs.Table.{line1, line2, line3, line4, line5, line6, line7, line8, line9, table, broken, line_verdict, plan_verdict}
 use Rattle.rules.specs.Theorems.{Time, Accepts, AcceptedExactly}

@@ -7,7 +7,7 @@ use lib.Dec.{leb, ltb, eqb}
 use borrow.Author.Tests.{ltb-true, leb-true, eqb-true}
 use Rattle.laws.proofs.Tests.{tests, case, clash, all_hold}
 use Rattle.rules.specs.declared.Plan.{Plan}
-use Rattle.rules.specs.declared.Verdict.TheVariants.{Accepted, Refused}
+use Rattle.rules.specs.Verdict.{Accepted, Refused}
 use Rattle.rules.specs.Table.{line1, table, broken, line_verdict, plan_verdict}
 use Rattle.rules.specs.Theorems.{FirstBroken, RefusedExactly}
 use Rattle.rules.proofs.Answers.{first_is, refused_at}

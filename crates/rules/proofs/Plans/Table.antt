@@ -10,7 +10,7 @@ use borrow.Author.Tests.{ltb-true, eqb-true, lt-ltb, le-leb, not-false}
 use Rattle.laws.specs.Tests.{lowest}
 use Rattle.laws.proofs.Tests.{tests, NoneHolds, all_hold, all_of_lem, none_of, none_at, lowest_none, lowest_holds, lowest_is, lowest_is_none}
 use Rattle.rules.specs.declared.Plan.{Plan}
-use Rattle.rules.specs.declared.Verdict.TheVariants.{Accepted, Refused}
+use Rattle.rules.specs.Verdict.{Accepted, Refused}
 use Rattle.rules.specs.Plan.{slot, empty_slot, is_time, is_device, is_pair, is_above}
 use Rattle.rules.specs.Table.{fails, line1, line2, line3, line4, line5, line6, line7, line8, line9, table, broken, line_verdict}
 use Rattle.rules.specs.Theorems.{Time}

@@ -4,7 +4,7 @@ use Rattle.laws.specs.Tests.{all_of}
 use Rattle.laws.specs.Bits.{bit, clear_from}
 use Rattle.rules.specs.declared.Plan.{Plan}
 use Rattle.rules.specs.declared.Record.{Record}
-use Rattle.rules.specs.declared.Verdict.{Verdict}
+use Rattle.rules.specs.Verdict.{Verdict}
 use Rattle.rules.specs.Verdict.{refused_if}
 
 -- Byte 0: command 0 none, 1 request, 2 cancel.
