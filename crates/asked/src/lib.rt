@@ -13,7 +13,7 @@ use bodies::PLAN_SIZE;
 use layout::yard::YARD_SIZE;
 use listing_rules::Listed;
 use planfile_rules::{ReadAnswer, WriteAnswer};
-use rules::{Down, FreshAnswer, Record, RunAnswer, TickAnswer, Verdict};
+use rules::{FreshAnswer, Record, RunAnswer, TickAnswer, Verdict};
 
 pub fn check_for(plan: &[u8]) -> Verdict
     ensures { result ≡ check_for plan.now }
@@ -47,7 +47,7 @@ pub fn tick_for(plan: &[u8], bytes: &[u8], r: Record) -> TickAnswer
         return TickAnswer {
             verdict: size,
             yard,
-            down: Down::None,
+            down: None,
         };
     };
     yard::tick(p, yard, r)

@@ -11,14 +11,14 @@ ghost use Rattle.rules.specs.Tick.Step3 as step3;
 use rules::{Base, BaseMove, Down, Letter, Terms};
 use vocabulary::letter_number;
 
-fn same_letter(a: Letter, b: Letter) -> bool
+fn same_letter(a: Option<Letter>, b: Option<Letter>) -> bool
     ensures { result ≡ yard.same_letter a b }
 {
     letter_number(a) == letter_number(b)
 }
 
 // Every change of place sets the place clock to 0.
-fn goes(base: Base, lease: u32, down: Down) -> BaseMove
+fn goes(base: Base, lease: u32, down: Option<Down>) -> BaseMove
     ensures { result ≡ step3.goes base lease down }
 {
     BaseMove {
@@ -32,7 +32,7 @@ fn goes(base: Base, lease: u32, down: Down) -> BaseMove
 fn falls_back() -> BaseMove
     ensures { result ≡ step3.falls_back }
 {
-    goes(Base::FallBack, 0, Down::None)
+    goes(Base::FallBack, 0, None)
 }
 
 fn stays(base: Base, clock: u16, lease: u32) -> BaseMove
@@ -42,20 +42,20 @@ fn stays(base: Base, clock: u16, lease: u32) -> BaseMove
         base,
         clock,
         lease,
-        down: Down::None,
+        down: None,
     }
 }
 
 fn cancels(i: u8, lease: u32) -> BaseMove
     ensures { result ≡ step3.cancels i lease }
 {
-    goes(Base::Cancel(i), lease, Down::Cancel(i))
+    goes(Base::Cancel(i), lease, Some(Down::Cancel(i)))
 }
 
 fn aborts(i: u8, lease: u32) -> BaseMove
     ensures { result ≡ step3.aborts i lease }
 {
-    goes(Base::Abort(i), lease, Down::Abort(i))
+    goes(Base::Abort(i), lease, Some(Down::Abort(i)))
 }
 
 // The device before i; before 0 there is none, and it is 0 again.
@@ -90,16 +90,16 @@ fn leases(t: Terms, i: u8, lease: u32) -> BaseMove
 {
     let next = i + 1;
     if next == t.N {
-        return goes(Base::Lease(next), lease, Down::Grant(next));
+        return goes(Base::Lease(next), lease, Some(Down::Grant(next)));
     }
-    goes(Base::Lease(next), lease, Down::LeaseReq(next))
+    goes(Base::Lease(next), lease, Some(Down::LeaseReq(next)))
 }
 
-fn in_fall_back(t: Terms, approved: bool, last: Letter, clock: u16, lease: u32) -> BaseMove
+fn in_fall_back(t: Terms, approved: bool, last: Option<Letter>, clock: u16, lease: u32) -> BaseMove
     ensures { result ≡ step3.in_fall_back t approved last clock lease }
 {
-    if same_letter(last, Letter::Request) & (clock == t.B) & approved {
-        return goes(Base::Lease(1), 0, Down::LeaseReq(1));
+    if same_letter(last, Some(Letter::Request)) & (clock == t.B) & approved {
+        return goes(Base::Lease(1), 0, Some(Down::LeaseReq(1)));
     }
     stays(Base::FallBack, clock, lease)
 }
@@ -108,8 +108,8 @@ fn in_fall_back(t: Terms, approved: bool, last: Letter, clock: u16, lease: u32) 
 fn in_lease(
     t: Terms,
     approved: bool,
-    last: Letter,
-    own: Letter,
+    last: Option<Letter>,
+    own: Option<Letter>,
     i: u8,
     clock: u16,
     lease: u32,
@@ -121,13 +121,13 @@ fn in_lease(
     if !approved {
         return aborts(i, lease);
     }
-    if same_letter(last, Letter::Cancel) {
+    if same_letter(last, Some(Letter::Cancel)) {
         return cancels(i, lease);
     }
-    if same_letter(own, Letter::Approve) {
+    if same_letter(own, Some(Letter::Approve)) {
         return leases(t, i, lease);
     }
-    if same_letter(own, Letter::Deny) {
+    if same_letter(own, Some(Letter::Deny)) {
         return cancels_below(i, lease);
     }
     if waited {
@@ -136,16 +136,16 @@ fn in_lease(
     stays(Base::Lease(i), clock, lease)
 }
 
-fn in_lease_n(approved: bool, last: Letter, own: Letter, i: u8, clock: u16, lease: u32) -> BaseMove
+fn in_lease_n(approved: bool, last: Option<Letter>, own: Option<Letter>, i: u8, clock: u16, lease: u32) -> BaseMove
     ensures { result ≡ step3.in_lease_n approved last own i clock lease }
 {
-    if same_letter(own, Letter::Exit) {
+    if same_letter(own, Some(Letter::Exit)) {
         return cancels(one_below(i), lease);
     }
     if !approved {
         return aborts(i, lease);
     }
-    if same_letter(last, Letter::Cancel) {
+    if same_letter(last, Some(Letter::Cancel)) {
         return cancels(i, lease);
     }
     stays(Base::Lease(i), clock, lease)
@@ -155,8 +155,8 @@ fn in_lease_n(approved: bool, last: Letter, own: Letter, i: u8, clock: u16, leas
 fn leasing(
     t: Terms,
     approved: bool,
-    last: Letter,
-    own: Letter,
+    last: Option<Letter>,
+    own: Option<Letter>,
     i: u8,
     clock: u16,
     lease: u32,
@@ -169,19 +169,19 @@ fn leasing(
     in_lease_n(approved, last, own, i, clock, lease)
 }
 
-fn cancelling(own: Letter, i: u8, clock: u16, lease: u32) -> BaseMove
+fn cancelling(own: Option<Letter>, i: u8, clock: u16, lease: u32) -> BaseMove
     ensures { result ≡ step3.cancelling own i clock lease }
 {
-    if same_letter(own, Letter::Exit) {
+    if same_letter(own, Some(Letter::Exit)) {
         return cancels_below(i, lease);
     }
     stays(Base::Cancel(i), clock, lease)
 }
 
-fn aborting(own: Letter, i: u8, clock: u16, lease: u32) -> BaseMove
+fn aborting(own: Option<Letter>, i: u8, clock: u16, lease: u32) -> BaseMove
     ensures { result ≡ step3.aborting own i clock lease }
 {
-    if same_letter(own, Letter::Exit) {
+    if same_letter(own, Some(Letter::Exit)) {
         return aborts_below(i, lease);
     }
     stays(Base::Abort(i), clock, lease)
@@ -191,8 +191,8 @@ fn aborting(own: Letter, i: u8, clock: u16, lease: u32) -> BaseMove
 pub fn base_move(
     t: Terms,
     approved: bool,
-    last: Letter,
-    own: Letter,
+    last: Option<Letter>,
+    own: Option<Letter>,
     base: Base,
     clock: u16,
     lease: u32,

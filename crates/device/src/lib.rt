@@ -16,7 +16,7 @@ pub fn fresh_device() -> Device
     Device {
         place: Place::FallBack,
         clock: 0,
-        letter: Letter::None,
+        letter: None,
     }
 }
 
@@ -33,7 +33,7 @@ pub fn goes_to(place: Place, d: Device) -> Device
     }
 }
 
-pub fn writes(letter: Letter, d: Device) -> Device
+pub fn writes(letter: Option<Letter>, d: Device) -> Device
     ensures { result ≡ yard.writes letter d }
 {
     let place = d.place;
@@ -46,9 +46,9 @@ pub fn writes(letter: Letter, d: Device) -> Device
 
 // Both, for a move with a letter of its own.
 fn goes_writing(place: Place, letter: Letter, d: Device) -> Device
-    ensures { result ≡ yard.goes_writing place letter d }
+    ensures { result ≡ yard.goes_writing place (Some letter) d }
 {
-    writes(letter, goes_to(place, d))
+    writes(Some(letter), goes_to(place, d))
 }
 
 pub fn clock_at(clock: u16, d: Device) -> Device
@@ -202,21 +202,21 @@ fn hear_cancel(place: Place, d: Device) -> Device
 }
 
 // Step 4 of the device with number i, where the letter has not been lost: only the device that it is for heeds it.
-pub fn arrived(s: Slot, willing: bool, l: Down, i: u8, d: Device) -> Device
+pub fn arrived(s: Slot, willing: bool, l: Option<Down>, i: u8, d: Device) -> Device
     ensures { result ≡ step4.arrived s willing l i d }
 {
     let place = d.place;
     match l {
-        Down::None => d,
-        Down::LeaseReq(k) => {
+        None => d,
+        Some(Down::LeaseReq(k)) => {
             if i == k {
                 hear_lease_req(s, willing, place, d)
             } else {
                 d
             }
         }
-        Down::Grant(k) => { if i == k { hear_grant(place, d) } else { d } }
-        Down::Cancel(k) => { if i == k { hear_cancel(place, d) } else { d } }
-        Down::Abort(k) => { if i == k { hear_cancel(place, d) } else { d } }
+        Some(Down::Grant(k)) => { if i == k { hear_grant(place, d) } else { d } }
+        Some(Down::Cancel(k)) => { if i == k { hear_cancel(place, d) } else { d } }
+        Some(Down::Abort(k)) => { if i == k { hear_cancel(place, d) } else { d } }
     }
 }

@@ -11,7 +11,7 @@ use Rattle.numbers.specs.Bytes.{AllBytes}
 use Rattle.rules.specs.declared.Plan.{Plan}
 use Rattle.rules.specs.declared.Yard.{Yard}
 use Rattle.rules.specs.declared.Record.{Record}
-use Rattle.rules.specs.declared.Down.TheVariants as down
+use Rattle.rules.specs.Downs as down
 use Rattle.rules.specs.declared.FreshAnswer.{FreshAnswer}
 use Rattle.rules.specs.declared.TickAnswer.{TickAnswer}
 use Rattle.rules.specs.declared.RunAnswer.{RunAnswer}
@@ -122,7 +122,7 @@ module _ (plan yard : List ℕ) where
       let answer : TickAnswer = tick_answer (whole_plan plan) (yard_of yard) x in
       let fits : sizes plan yard ≡ true =
       sized_for (λ (r : TickAnswer). r.verdict) (sizes plan yard) answer
-      (record { verdict = size_verdict (sizes plan yard); yard = yard_of yard; down = down.None }) refl a.answer.no in
+      (record { verdict = size_verdict (sizes plan yard); yard = yard_of yard; down = down.none }) refl a.answer.no in
       chain answer.verdict answer.yard yard left
       (eight_tick (whole_plan plan) (yard_of yard) (eight_read yard) x)
       (tick_kept (whole_plan plan) (yard_of yard) x)

@@ -7,7 +7,7 @@ use lib.ListN.{length}
 use borrow.Author.Tests.{eqb-true}
 use Rattle.laws.proofs.Tests.{case}
 use Rattle.rules.specs.Verdict.{Accepted}
-use Rattle.rules.specs.declared.Down.TheVariants as down
+use Rattle.rules.specs.Downs as down
 use Rattle.rules.specs.declared.Record.{Record}
 use Rattle.rules.specs.declared.FreshAnswer.{FreshAnswer}
 use Rattle.rules.specs.declared.TickAnswer.{TickAnswer}
@@ -50,7 +50,7 @@ module _ (plan yard : List ℕ) where
   tick_sized r h =
       yard_sized (fits_plan (length plan)) (length yard)
       (sized (λ (a : TickAnswer). a.verdict) (sizes plan yard) (tick_answer (whole_plan plan) (yard_of yard) r)
-      (record { verdict = size_verdict (sizes plan yard); yard = yard_of yard; down = down.None }) refl h)
+      (record { verdict = size_verdict (sizes plan yard); yard = yard_of yard; down = down.none }) refl h)
 
   pub run_sized :
       (roll : List ℕ) (budget : ℕ) (engaged : List ℕ) → (run_for plan yard roll budget engaged).verdict ≡ Accepted

@@ -7,7 +7,7 @@ use lib.ListN.{length}
 use Rattle.laws.proofs.Tests.{case}
 use Rattle.rules.specs.Verdict.{Verdict}
 use Rattle.rules.specs.Verdict.{Accepted, Refused}
-use Rattle.rules.specs.declared.Down.TheVariants as down
+use Rattle.rules.specs.Downs as down
 use Rattle.rules.specs.declared.Record.{Record}
 use Rattle.rules.specs.Verdict.{number_of}
 use Rattle.rules.specs.Tick.{tick_answer}
@@ -27,7 +27,7 @@ refusal {v} a h so = by_verdict v (λ taken. absurd (none taken a h)) so
     none {v} e a h = let z = a.no in let zero : number_of v ≡ 0 = rw e in omega arith
 
 module _ (plan yard : List ℕ) where
-  no_letter_lem : (x : Record) {k i : ℕ} → (tick_for plan yard x).verdict ≡ Refused k i → (tick_for plan yard x).down ≡ down.None
+  no_letter_lem : (x : Record) {k i : ℕ} → (tick_for plan yard x).verdict ≡ Refused k i → (tick_for plan yard x).down ≡ down.none
   unfolding tick_for size_verdict tick_answer
   no_letter_lem x = case (sizes plan yard) (λ e. rw e (λ h. rw h)) (λ e. rw e (λ h. refl))
 

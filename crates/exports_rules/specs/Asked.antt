@@ -2,7 +2,7 @@
 use Rattle.std.specs.Prelude.{ℕ, ◌≡◌, Bool, not, ◌&&◌, List, eqb, length}
 use Rattle.rules.specs.Verdict.{Verdict}
 use Rattle.rules.specs.Verdict.{Accepted}
-use Rattle.rules.specs.declared.Down.TheVariants as down
+use Rattle.rules.specs.Downs as down
 use Rattle.rules.specs.declared.Record.{Record}
 use Rattle.rules.specs.declared.FreshAnswer.{FreshAnswer}
 use Rattle.rules.specs.declared.TickAnswer.{TickAnswer}
@@ -49,7 +49,7 @@ tick_for plan yard r =
     let size = size_verdict (sizes plan yard) in
     if_accepted size
     (tick_answer (whole_plan plan) (yard_of yard) r)
-    (record { verdict = size; yard = yard_of yard; down = down.None })
+    (record { verdict = size; yard = yard_of yard; down = down.none })
 
 unfoldable pub run_for : List ℕ → List ℕ → List ℕ → ℕ → List ℕ → RunAnswer
 run_for plan yard roll budget engaged =

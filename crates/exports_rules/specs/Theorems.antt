@@ -1,8 +1,8 @@
 -- What a caller may rest on, each statement proved in proofs/ under the name that stands beside it.
-use Rattle.std.specs.Prelude.{ℕ, ◌<◌, ◌≡◌, cond, List, eqb, length, take}
+use Rattle.std.specs.Prelude.{ℕ, ◌<◌, ◌≡◌, cond, List, eqb, length, take, Option}
 use Rattle.numbers.specs.Bytes.{AllBytes}
 use Rattle.rules.specs.declared.Down.{Down}
-use Rattle.rules.specs.declared.Down.TheVariants as down
+use Rattle.rules.specs.Downs as down
 use Rattle.rules.specs.declared.Record.{Record}
 use Rattle.rules.specs.Yard.{fresh_yard}
 use Rattle.rules.specs.Numbers.{down_number, down_index}
@@ -84,17 +84,17 @@ pub record Chained : Type 0 where
       → yard_of after ≡ (list_answer (whole_plan plan) (yard_of yard) roll first (length out)).yard
 
 -- What the numbers of a letter and of a piece stand for, for a caller who reads them.
-unfoldable pub letter_told : ℕ → ℕ → Down
+unfoldable pub letter_told : ℕ → ℕ → Option Down
 letter_told number i =
     cond (eqb number 1) (down.LeaseReq i)
     (cond (eqb number 2) (down.Grant i)
     (cond (eqb number 3) (down.Cancel i)
-    (cond (eqb number 4) (down.Abort i) down.None)))
+    (cond (eqb number 4) (down.Abort i) down.none)))
 
 unfoldable pub piece_told : ℕ → ℕ → ℕ → Piece
 piece_told which s n = cond (eqb which 0) (InFile s n) (InRoll s n)
 
 -- Nothing is lost in them: each letter and each piece is had back (`told_apart`).
 pub record ToldApart : Type 0 where
-  pub letter : (l : Down) → letter_told (down_number l) (down_index l) ≡ l
+  pub letter : (l : Option Down) → letter_told (down_number l) (down_index l) ≡ l
   pub piece : (x : Piece) → piece_told (which_of x) (start_of x) (length_of x) ≡ x

@@ -90,14 +90,14 @@ fn marked(b: u8, i: u8, lost: bool, out: &mut [u8], at: usize) -> usize
 }
 
 // The down letter of a tick; where there is none nothing is marked, whatever the record says of its loss.
-pub fn letter(down: Down, lost: bool, out: &mut [u8], at: usize) -> usize
+pub fn letter(down: Option<Down>, lost: bool, out: &mut [u8], at: usize) -> usize
     ensures { Laid out.old at (32 ∷ down_text down lost) out.new result }
 {
     match down {
-        Down::None => short(b'-', out, at),
-        Down::LeaseReq(i) => marked(b'Q', i, lost, out, at),
-        Down::Grant(i) => marked(b'G', i, lost, out, at),
-        Down::Cancel(i) => marked(b'C', i, lost, out, at),
-        Down::Abort(i) => marked(b'A', i, lost, out, at),
+        None => short(b'-', out, at),
+        Some(Down::LeaseReq(i)) => marked(b'Q', i, lost, out, at),
+        Some(Down::Grant(i)) => marked(b'G', i, lost, out, at),
+        Some(Down::Cancel(i)) => marked(b'C', i, lost, out, at),
+        Some(Down::Abort(i)) => marked(b'A', i, lost, out, at),
     }
 }

@@ -1,4 +1,5 @@
 -- A yard's bytes are read as that yard.
+use Rattle.std.specs.Prelude.{Option}
 use Prim.Native.Nat.{ℕ, ◌+◌, ◌-◌, ◌≤◌, ◌<◌}
 use native.Mathlib.Omega.{arith}
 use mathlib.Core.Path.{◌≡◌, refl, ◌∙◌}
@@ -15,7 +16,7 @@ use Rattle.rules.specs.declared.Base.TheVariants as base
 use Rattle.rules.specs.declared.Place.{Place}
 use Rattle.rules.specs.declared.Place.TheVariants as place
 use Rattle.rules.specs.declared.Letter.{Letter}
-use Rattle.rules.specs.declared.Letter.TheVariants as letter
+use Rattle.rules.specs.Letters as letter
 use Rattle.rules.specs.declared.Device.{Device}
 use Rattle.rules.specs.declared.Yard.{Yard}
 use Rattle.rules.specs.Yard.{fresh_device}
@@ -36,8 +37,8 @@ place_low place.Running = omega arith
 place_low place.Exiting1 = omega arith
 place_low place.Exiting2 = omega arith
 
-letter_low : (a : Letter) → letter_number a ≤ 5
-letter_low letter.None = omega arith
+letter_low : (a : Option Letter) → letter_number a ≤ 5
+letter_low letter.none = omega arith
 letter_low letter.Request = omega arith
 letter_low letter.Cancel = omega arith
 letter_low letter.Approve = omega arith

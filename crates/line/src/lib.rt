@@ -39,7 +39,7 @@ pub fn line(
     tick: usize,
     n: u16,
     y: Yard,
-    down: Down,
+    down: Option<Down>,
     lost: bool,
     out: &mut [u8],
     at: usize,

@@ -1,4 +1,5 @@
 -- Fields with a space before each: one more field, and a whole line in the order in which it is laid.
+use Rattle.std.specs.Prelude.{Option}
 use Prim.Native.Nat.{ℕ, zero, suc, ◌+◌, ◌-◌, ◌*◌, ◌≤◌}
 use native.Mathlib.Omega.{arith}
 use native.Mathlib.Nat.{suc-mul}
@@ -75,7 +76,7 @@ in_order a s d T =
     ∙ ap (λ (l : List ℕ). s ++ l) (append_assoc (spaced T) (32 ∷ d) (10 ∷ []))))
 
 pub line_in_order :
-    (t n : ℕ) (y : Yard) (d : Down) (lost : Bool)
+    (t n : ℕ) (y : Yard) (d : Option Down) (lost : Bool)
     → line_text t n y d lost
     ≡ decimal t
     ++ (32 ∷ sup_text y.base

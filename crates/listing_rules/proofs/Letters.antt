@@ -1,4 +1,5 @@
 -- The devices that a line names: under an accepted plan there is none above N.
+use Rattle.std.specs.Prelude.{Option}
 use Prim.Native.Nat.{ℕ, ◌+◌, ◌-◌, ◌≤◌}
 use native.Mathlib.Omega.{arith}
 use mathlib.Core.Bool.{Bool, true, not, ◌&&◌}
@@ -11,7 +12,7 @@ use Rattle.rules.specs.declared.Record.{Record}
 use Rattle.rules.specs.declared.Base.{Base}
 use Rattle.rules.specs.declared.Base.TheVariants as base
 use Rattle.rules.specs.declared.Letter.{Letter}
-use Rattle.rules.specs.declared.Letter.TheVariants as letter
+use Rattle.rules.specs.Letters as letter
 use Rattle.rules.specs.declared.Down.{Down}
 use Rattle.rules.specs.declared.Terms.{Terms}
 use Rattle.rules.specs.declared.BaseMove.{BaseMove}
@@ -35,10 +36,10 @@ cancels_own i l = omega arith
 aborts_own : (i l : ℕ) → Own (aborts i l)
 aborts_own i l = omega arith
 
-module _ (t : Terms) (approved : Bool) (last own : Letter) where
+module _ (t : Terms) (approved : Bool) (last own : Option Letter) where
   leases_own : (i l : ℕ) → Own (leases t i l)
   leases_own i l =
-      on_cond (λ (d : Down). down_index d ≤ i + 1) (eqb (i + 1) t.N) (λ e. omega arith) (λ e. omega arith)
+      on_cond (λ (d : Option Down). down_index d ≤ i + 1) (eqb (i + 1) t.N) (λ e. omega arith) (λ e. omega arith)
 
   lease_own : (i c l : ℕ) → Own (in_lease t approved last own i c l)
   unfolding in_lease

@@ -1,4 +1,5 @@
 -- The theorems of specs/Theorems.antt but the printed listings.
+use Rattle.std.specs.Prelude.{Option}
 use Prim.Native.Nat.{ℕ, zero, suc, ◌+◌, ◌-◌, ◌*◌, ◌≤◌, ◌<◌}
 use native.Mathlib.Omega.{arith}
 use native.Mathlib.Nat.{add-zero, add-suc}
@@ -21,7 +22,7 @@ use Rattle.rules.specs.declared.Base.TheVariants as base
 use Rattle.rules.specs.declared.Place.{Place}
 use Rattle.rules.specs.declared.Place.TheVariants as place
 use Rattle.rules.specs.declared.Down.{Down}
-use Rattle.rules.specs.declared.Down.TheVariants as down
+use Rattle.rules.specs.Downs as down
 use Rattle.rules.specs.Yard.{device, engaged}
 use Rattle.rules.specs.Numbers.{base_index, down_index}
 use Rattle.rules.specs.Run.{after}
@@ -63,12 +64,12 @@ marked_fits : (b i : ℕ) (lost : Bool) → i < 256 → length (b ∷ decimal i 
 marked_fits b i true h = omega (arith, length-append (decimal i) (mark true), digits_few 2 i (omega arith))
 marked_fits b i false h = omega (arith, length-append (decimal i) (mark false), digits_few 2 i (omega arith))
 
-none_fits : (lost : Bool) → length (down_text down.None lost) ≤ 5
+none_fits : (lost : Bool) → length (down_text down.none lost) ≤ 5
 none_fits true = omega arith
 none_fits false = omega arith
 
-down_fits : (l : Down) (lost : Bool) → down_index l < 256 → length (down_text l lost) ≤ 5
-down_fits down.None lost h = none_fits lost
+down_fits : (l : Option Down) (lost : Bool) → down_index l < 256 → length (down_text l lost) ≤ 5
+down_fits down.none lost h = none_fits lost
 down_fits (down.LeaseReq i) lost h = marked_fits 81 i lost h
 down_fits (down.Grant i) lost h = marked_fits 71 i lost h
 down_fits (down.Cancel i) lost h = marked_fits 67 i lost h
@@ -91,7 +92,7 @@ header_fits n few =
 
 -- The byte of device i.
 shown :
-    (t n : ℕ) (y : Yard) (l : Down) (lost : Bool) (i : ℕ) → 1 ≤ i → i ≤ n
+    (t n : ℕ) (y : Yard) (l : Option Down) (lost : Bool) (i : ℕ) → 1 ≤ i → i ≤ n
     → get_or (line_text t n y l lost) (column_of t y i) 0 ≡ place_sign (device y i).place
 shown t n y l lost i low high =
     let b : ℕ → ℕ = λ i. place_sign (device y i).place in

@@ -1,5 +1,5 @@
 -- Document 01, "Worked yards": the header and a line a tick, as bytes. The character of a byte stands beside it.
-use Rattle.std.specs.Prelude.{ℕ, Bool, cond, List, [], ◌∷◌, ◌++◌}
+use Rattle.std.specs.Prelude.{ℕ, Bool, cond, List, [], ◌∷◌, ◌++◌, Option}
 use Rattle.laws.specs.Lists.{tabulate}
 use Rattle.text_rules.specs.Decimal.{decimal}
 use Rattle.rules.specs.declared.Base.{Base}
@@ -7,7 +7,7 @@ use Rattle.rules.specs.declared.Base.TheVariants as base
 use Rattle.rules.specs.declared.Place.{Place}
 use Rattle.rules.specs.declared.Place.TheVariants as place
 use Rattle.rules.specs.declared.Down.{Down}
-use Rattle.rules.specs.declared.Down.TheVariants as down
+use Rattle.rules.specs.Downs as down
 use Rattle.rules.specs.declared.Yard.{Yard}
 use Rattle.rules.specs.Yard.{device}
 
@@ -45,9 +45,9 @@ abbrev pub mark : Bool → List ℕ
 mark lost = cond lost (33 ∷ []) []
 
 -- The down letter: Q LeaseReq, G Grant, C, A with i, marked if lost; '-' none, and then there is nothing to mark.
-abbrev pub down_text : Down → Bool → List ℕ
+abbrev pub down_text : Option Down → Bool → List ℕ
 -- '-'
-down_text down.None lost = 45 ∷ []
+down_text down.none lost = 45 ∷ []
 -- 'Q'
 down_text (down.LeaseReq i) lost = 81 ∷ decimal i ++ mark lost
 -- 'G'
@@ -66,7 +66,7 @@ abbrev pub line_of : List ℕ → List (List ℕ) → List ℕ
 line_of first others = first ++ spaced others ++ (10 ∷ [])
 
 -- A line: tick number, supervisor, each of n devices, down letter.
-unfoldable pub line_text : ℕ → ℕ → Yard → Down → Bool → List ℕ
+unfoldable pub line_text : ℕ → ℕ → Yard → Option Down → Bool → List ℕ
 line_text t n y l lost =
     line_of (decimal t)
     (sup_text y.base ∷ tabulate (λ i. place_text (device y i).place) n ++ (down_text l lost ∷ []))

@@ -1,11 +1,11 @@
 -- What keeps the definitions honest: statements for a reader to hold against document 01, each proved in proofs/ under the
 -- name that stands beside it.
-use Rattle.std.specs.Prelude.{ℕ, suc, ◌+◌, ◌-◌, ◌*◌, ◌^◌, ◌≤◌, ◌<◌, ◌≡◌, ◌↔◌, ◌⊎◌, Bool, true, false, List, ◌++◌, length, get_or, drop}
+use Rattle.std.specs.Prelude.{ℕ, suc, ◌+◌, ◌-◌, ◌*◌, ◌^◌, ◌≤◌, ◌<◌, ◌≡◌, ◌↔◌, ◌⊎◌, Bool, true, false, List, ◌++◌, length, get_or, drop, Option}
 use Rattle.laws.specs.Bits.{bit}
 use Rattle.rules.specs.declared.Plan.{Plan}
 use Rattle.rules.specs.declared.Yard.{Yard}
 use Rattle.rules.specs.declared.Down.{Down}
-use Rattle.rules.specs.declared.Down.TheVariants as down
+use Rattle.rules.specs.Downs as down
 use Rattle.rules.specs.Verdict.{Accepted}
 use Rattle.rules.specs.Numbers.{base_index, down_index}
 use Rattle.rules.specs.Run.{record_start, after, engaged_byte, roll_verdict}
@@ -20,12 +20,12 @@ AsPrinted = listed ≡ printed
 
 -- Where no letter was sent, a loss leaves no mark: the line is the same (`no_letter_no_mark`).
 abbrev pub NoLetterNoMark : Type 0
-NoLetterNoMark = (t n : ℕ) (y : Yard) (lost : Bool) → line_text t n y down.None lost ≡ line_text t n y down.None false
+NoLetterNoMark = (t n : ℕ) (y : Yard) (lost : Bool) → line_text t n y down.none lost ≡ line_text t n y down.none false
 
 -- A line of at most 8 devices, with a tick number of 64 bits and indices of one byte, has room in 64 bytes (`line_fits`).
 abbrev pub LineFits : Type 0
 LineFits =
-    (t n : ℕ) (y : Yard) (l : Down) (lost : Bool) → t < 2 ^ 64 → n ≤ 8 → base_index y.base < 256 → down_index l < 256
+    (t n : ℕ) (y : Yard) (l : Option Down) (lost : Bool) → t < 2 ^ 64 → n ≤ 8 → base_index y.base < 256 → down_index l < 256
     → length (line_text t n y l lost) ≤ line_room
 
 -- So has the header for at most 8 devices (`header_fits`).

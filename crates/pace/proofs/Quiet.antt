@@ -1,4 +1,5 @@
 -- A device that has no letter, heeds no command and for which nothing falls due: only its clock moves.
+use Rattle.std.specs.Prelude.{Option}
 use Prim.Native.Nat.{ℕ, ◌+◌, ◌<◌}
 use native.Mathlib.Omega.{arith}
 use mathlib.Core.Path.{◌≡◌, refl}
@@ -11,7 +12,7 @@ use Rattle.rules.specs.declared.Slot.{Slot}
 use Rattle.rules.specs.declared.Place.{Place}
 use Rattle.rules.specs.declared.Place.TheVariants as place
 use Rattle.rules.specs.declared.Letter.{Letter}
-use Rattle.rules.specs.declared.Letter.TheVariants as letter
+use Rattle.rules.specs.Letters as letter
 use Rattle.rules.specs.declared.Device.{Device}
 use Rattle.rules.specs.Yard.{clock_at}
 use Rattle.rules.specs.Numbers.{place_number, letter_number}
@@ -21,8 +22,8 @@ use Rattle.pace.specs.declared.Pace.{Pace}
 use Rattle.pace.specs.declared.Pace.TheVariants as pace
 use Rattle.pace.specs.Pace.{clocked_by, stirring, pace_by}
 
-pub no_letter_lem : (l : Letter) → letter_number l ≡ 0 → l ≡ letter.None
-no_letter_lem letter.None e = refl
+pub no_letter_lem : (l : Option Letter) → letter_number l ≡ 0 → l ≡ letter.none
+no_letter_lem letter.none e = refl
 no_letter_lem letter.Request e = absurd (omega arith)
 no_letter_lem letter.Cancel e = absurd (omega arith)
 no_letter_lem letter.Approve e = absurd (omega arith)
@@ -87,7 +88,7 @@ module _ (Q : ℕ) (s : Slot) (command : ℕ) where
 -- Without a letter, steps 1 and 2 leave all but its clock, whatever its slot and Q are, if its clock runs to `time`.
 -- A participant does what the initializer does without a command.
 pub record Still (time command : ℕ) (d : Device) (clock : ℕ) : Type 0 where
-  pub silent : d.letter ≡ letter.None
+  pub silent : d.letter ≡ letter.none
   pub device :
       (Q : ℕ) (s : Slot) → time ≡ time_of Q s (place_number d.place)
       → moved Q s true command (clocked_by s d) ≡ clock_at clock d
@@ -99,7 +100,7 @@ module _ (time command : ℕ) (d : Device) where
   Paced pace.Moves = Unit
 
   still_resting :
-      d.letter ≡ letter.None → place_number d.place ≡ 0 → (command ≡ 1 → ⊥)
+      d.letter ≡ letter.none → place_number d.place ≡ 0 → (command ≡ 1 → ⊥)
       → Still time command d (stops_at time d.clock)
   still_resting silent here other = record {
     silent = silent;
@@ -107,7 +108,7 @@ module _ (time command : ℕ) (d : Device) where
   }
 
   still_going :
-      d.letter ≡ letter.None → (place_number d.place ≡ 0 → ⊥) → (command ≡ 2 → ⊥) → d.clock + 1 < time
+      d.letter ≡ letter.none → (place_number d.place ≡ 0 → ⊥) → (command ≡ 2 → ⊥) → d.clock + 1 < time
       → Still time command d (stops_at time d.clock)
   still_going silent out other early = record {
     silent = silent;

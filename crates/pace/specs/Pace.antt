@@ -1,10 +1,10 @@
 -- One device of a tick, until its letter has gone up, and the device that a down letter reaches, as the run's loop computes
 -- them on the way; what a caller is promised is `tick_answer` and `run_answer` of the rules.
-use Rattle.std.specs.Prelude.{ℕ, ◌+◌, Bool, not, ◌&&◌, ◌||◌, cond, leb, eqb}
+use Rattle.std.specs.Prelude.{ℕ, ◌+◌, Bool, not, ◌&&◌, ◌||◌, cond, leb, eqb, Option}
 use Rattle.rules.specs.declared.Slot.{Slot}
 use Rattle.rules.specs.declared.Device.{Device}
 use Rattle.rules.specs.declared.Letter.{Letter}
-use Rattle.rules.specs.declared.Letter.TheVariants as letter
+use Rattle.rules.specs.Letters as letter
 use Rattle.rules.specs.declared.Down.{Down}
 use Rattle.rules.specs.Yard.{writes, clock_at}
 use Rattle.rules.specs.Numbers.{place_number, letter_number, down_index}
@@ -18,8 +18,8 @@ abbrev pub clocked_by : Slot → Device → Device
 clocked_by s d = clock_at (device_clock s d.place d.clock) d
 
 -- What is heard of a letter that went up.
-abbrev pub heard_of : Bool → Letter → Letter
-heard_of lost l = cond lost letter.None l
+abbrev pub heard_of : Bool → Option Letter → Option Letter
+heard_of lost l = cond lost letter.none l
 
 -- Whether more than a device's clock moves, if it runs to `time`: a letter waits, a command is heeded (a request in Fall-Back,
 -- elsewhere a cancel), or the clock comes to that time.
@@ -34,8 +34,8 @@ pace_by time command d = cond (stirring time command d) pace.Moves (pace.Nothing
 
 -- d has moved: it is left without its letter, which is heard.
 abbrev pub went_up : Bool → Device → Risen
-went_up lost d = record { device = writes letter.None d; heard = heard_of lost d.letter }
+went_up lost d = record { device = writes letter.none d; heard = heard_of lost d.letter }
 
 -- The device that a down letter reaches, of n: the one that it is for, unless it is lost; 0 for none.
-abbrev pub reached_by : ℕ → Bool → Down → ℕ
+abbrev pub reached_by : ℕ → Bool → Option Down → ℕ
 reached_by n lost l = cond (leb (down_index l) n && not lost) (down_index l) 0

@@ -54,7 +54,7 @@ pub enum Pace {
 
 // Whether more than its clock moves: a letter waits, a command is heeded (a request in Fall-Back, elsewhere a cancel), or the
 // clock comes to `time`.
-fn stirs(time: u16, command: u8, place: Place, letter: Letter, clock: u16) -> bool
+fn stirs(time: u16, command: u8, place: Place, letter: Option<Letter>, clock: u16) -> bool
     ensures { result ≡ stirring time command (rules.at place clock letter) }
 {
     let waits = letter_number(letter) != 0;
@@ -66,7 +66,7 @@ fn stirs(time: u16, command: u8, place: Place, letter: Letter, clock: u16) -> bo
 
 // What a device does, if its clock runs to `time` in the place where it stands: in Fall-Back it stops there, elsewhere the
 // device is due. Most of the time only the clock moves.
-pub fn pace_by(time: u16, command: u8, place: Place, letter: Letter, clock: u16) -> Pace
+pub fn pace_by(time: u16, command: u8, place: Place, letter: Option<Letter>, clock: u16) -> Pace
     ensures { result ≡ pace_by time command (rules.at place clock letter) }
 {
     if stirs(time, command, place, letter, clock) {
@@ -76,11 +76,11 @@ pub fn pace_by(time: u16, command: u8, place: Place, letter: Letter, clock: u16)
 }
 
 // What the supervisor hears of a letter that went up.
-pub fn heard(lost: bool, letter: Letter) -> Letter
+pub fn heard(lost: bool, letter: Option<Letter>) -> Option<Letter>
     ensures { result ≡ heard_of lost letter }
 {
     if lost {
-        return Letter::None;
+        return None;
     }
     letter
 }
@@ -89,7 +89,7 @@ pub fn heard(lost: bool, letter: Letter) -> Letter
 #[derive(Clone, Copy)]
 pub struct Risen {
     pub device: Device,
-    pub heard: Letter,
+    pub heard: Option<Letter>,
 }
 
 // The device at i, whose clock has moved: it moves, and its letter goes up, and is lost where bit i of `lost` says so.
@@ -106,13 +106,13 @@ pub fn goes_up(
 {
     let m = device::moved(q, s, initializer, command, d);
     let letter = m.letter;
-    let device = device::writes(Letter::None, m);
+    let device = device::writes(None, m);
     let heard = heard(bit(lost, i), letter);
     Risen { device, heard }
 }
 
 // What is heard of the device that is listened to: of this one, where it is the one, else what was heard before.
-pub fn listen(here: bool, up: Risen, before: Letter) -> Letter
+pub fn listen(here: bool, up: Risen, before: Option<Letter>) -> Option<Letter>
     ensures { result ≡ cond here up.heard before }
 {
     let heard = up.heard;

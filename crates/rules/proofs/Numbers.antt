@@ -1,11 +1,12 @@
 -- Places, letters and bases are had back from their numbers, and numbers from what they stand for.
+use Rattle.std.specs.Prelude.{Option}
 use mathlib.Core.Path.{◌≡◌, refl}
 use Rattle.rules.specs.declared.Base.{Base}
 use Rattle.rules.specs.declared.Base.TheVariants as base
 use Rattle.rules.specs.declared.Place.{Place}
 use Rattle.rules.specs.declared.Place.TheVariants as place
 use Rattle.rules.specs.declared.Letter.{Letter}
-use Rattle.rules.specs.declared.Letter.TheVariants as letter
+use Rattle.rules.specs.Letters as letter
 use Rattle.rules.specs.Numbers.{place_number, place_of, letter_number, letter_of, base_number, base_index, base_of}
 use Rattle.rules.specs.Theorems.{VocabularyBack}
 
@@ -18,9 +19,9 @@ place_back place.Running = refl
 place_back place.Exiting1 = refl
 place_back place.Exiting2 = refl
 
-pub letter_back : (a : Letter) → letter_of (letter_number a) ≡ a
+pub letter_back : (a : Option Letter) → letter_of (letter_number a) ≡ a
 unfolding letter_of
-letter_back letter.None = refl
+letter_back letter.none = refl
 letter_back letter.Request = refl
 letter_back letter.Cancel = refl
 letter_back letter.Approve = refl

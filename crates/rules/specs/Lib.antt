@@ -1,6 +1,8 @@
 pub mod Plan
 pub mod Verdict
 pub mod Table
+pub mod Letters
+pub mod Downs
 pub mod Numbers
 pub mod Yard
 pub mod Tick

@@ -10,8 +10,8 @@ use Rattle.rules.specs.declared.Record.{Record}
 use Rattle.rules.specs.declared.Base.TheVariants as base
 use Rattle.rules.specs.declared.Place.{Place}
 use Rattle.rules.specs.declared.Place.TheVariants as place
-use Rattle.rules.specs.declared.Letter.TheVariants as letter
-use Rattle.rules.specs.declared.Down.TheVariants as down
+use Rattle.rules.specs.Letters as letter
+use Rattle.rules.specs.Downs as down
 use Rattle.rules.specs.Verdict.{Accepted}
 use Rattle.rules.specs.Plan.{slot, LS}
 use Rattle.rules.specs.Table.{plan_verdict}
@@ -95,8 +95,8 @@ pub record Undisturbed (p : Plan) (y : Yard) (r : Record) : Type 0 where
   pub not_cancelled : r.command ≡ cancel → ⊥
   pub approved : approval r ≡ true
   pub up_kept :
-      (i : ℕ) → 1 ≤ i → i ≤ p.N → ((device (step2 p r (step1 p y)) i).letter ≡ letter.None → ⊥) → up_lost r i ≡ false
-  pub down_kept : ((sent p y r).down ≡ down.None → ⊥) → down_lost r ≡ false
+      (i : ℕ) → 1 ≤ i → i ≤ p.N → ((device (step2 p r (step1 p y)) i).letter ≡ letter.none → ⊥) → up_lost r i ≡ false
+  pub down_kept : ((sent p y r).down ≡ down.none → ⊥) → down_lost r ≡ false
   pub willing : (k : ℕ) → (sent p y r).down ≡ down.LeaseReq k → willing r k ≡ true
 
 -- How long the blade takes from its request's tick: N - 1 + E of device N.

@@ -1,6 +1,6 @@
 -- What keeps the definitions honest: statements for a reader to hold against document 01, each proved in proofs/ under the
 -- name that stands beside it.
-use Rattle.std.specs.Prelude.{ℕ, ◌+◌, ◌-◌, ◌*◌, ◌≤◌, ◌<◌, ◌≡◌, ◌↔◌, ◌⊎◌, true, false, List, map, ◌++◌, length, drop}
+use Rattle.std.specs.Prelude.{ℕ, ◌+◌, ◌-◌, ◌*◌, ◌≤◌, ◌<◌, ◌≡◌, ◌↔◌, ◌⊎◌, true, false, List, map, ◌++◌, length, drop, Option}
 use Rattle.laws.specs.Bits.{bit}
 use Rattle.rules.specs.declared.Plan.{Plan}
 use Rattle.rules.specs.declared.Yard.{Yard}
@@ -10,7 +10,7 @@ use Rattle.rules.specs.declared.Base.TheVariants as base
 use Rattle.rules.specs.declared.Place.{Place}
 use Rattle.rules.specs.declared.Place.TheVariants as place
 use Rattle.rules.specs.declared.Letter.{Letter}
-use Rattle.rules.specs.declared.Letter.TheVariants as letter
+use Rattle.rules.specs.Letters as letter
 use Rattle.rules.specs.Verdict.{Accepted, Refused}
 use Rattle.rules.specs.Plan.{slot, stay, LS, empty_slot}
 use Rattle.rules.specs.Table.{broken, plan_verdict}
@@ -78,13 +78,13 @@ pub record FreshExactly : Type 0 where
   pub eight : length fresh_yard.devices ≡ 8
   pub places : (i : ℕ) → 1 ≤ i → i ≤ 8 → (device fresh_yard i).place ≡ place.FallBack
   pub clocks : (i : ℕ) → 1 ≤ i → i ≤ 8 → (device fresh_yard i).clock ≡ 0
-  pub letters : (i : ℕ) → 1 ≤ i → i ≤ 8 → (device fresh_yard i).letter ≡ letter.None
+  pub letters : (i : ℕ) → 1 ≤ i → i ≤ 8 → (device fresh_yard i).letter ≡ letter.none
   pub nobody : (i : ℕ) → 1 ≤ i → i ≤ 8 → engaged (device fresh_yard i).place ≡ false
 
 -- Nothing is lost in the numbers of places, letters and bases: each is had back (`vocabulary_back`).
 pub record VocabularyBack : Type 0 where
   pub places : (a : Place) → place_of (place_number a) ≡ a
-  pub letters : (a : Letter) → letter_of (letter_number a) ≡ a
+  pub letters : (a : Option Letter) → letter_of (letter_number a) ≡ a
   pub bases : (b : Base) → base_of (base_number b) (base_index b) ≡ b
 
 -- Under an accepted plan a tick keeps a well-formed state well formed: any such state, not only a reachable one, and on

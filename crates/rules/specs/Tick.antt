@@ -9,7 +9,7 @@ use Rattle.rules.specs.declared.Plan.{Plan}
 use Rattle.rules.specs.declared.Yard.{Yard}
 use Rattle.rules.specs.declared.Record.{Record}
 use Rattle.rules.specs.Verdict.{Verdict}
-use Rattle.rules.specs.declared.Down.TheVariants as down
+use Rattle.rules.specs.Downs as down
 use Rattle.rules.specs.declared.TickAnswer.{TickAnswer}
 use Rattle.rules.specs.Verdict.{first_refusal, if_accepted}
 use Rattle.rules.specs.Table.{plan_verdict}
@@ -32,4 +32,4 @@ tick_verdict p y r = first_refusal (plan_verdict p ∷ state_verdict p y ∷ Inp
 unfoldable pub tick_answer : Plan → Yard → Record → TickAnswer
 tick_answer p y r =
     let v = tick_verdict p y r in
-    record { verdict = v; yard = if_accepted v (tick p y r) y; down = if_accepted v (sent p y r).down down.None }
+    record { verdict = v; yard = if_accepted v (tick p y r) y; down = if_accepted v (sent p y r).down down.none }

@@ -1,5 +1,5 @@
 -- Document 01, "Worked yards": the cases that it marks with a star, as one list of questions with the answers it prints.
-use Rattle.std.specs.Prelude.{ℕ, zero, suc, ◌-◌, Bool, true, false, ◌&&◌, List, [], ◌∷◌, ◌++◌, replicate}
+use Rattle.std.specs.Prelude.{ℕ, zero, suc, ◌-◌, Bool, true, false, ◌&&◌, List, [], ◌∷◌, ◌++◌, replicate, Option}
 use Rattle.laws.specs.Lists.{tabulate}
 use Rattle.rules.specs.declared.Plan.{Plan}
 use Rattle.rules.specs.declared.Slot.{Slot}
@@ -9,7 +9,7 @@ use Rattle.rules.specs.declared.Place.{Place}
 use Rattle.rules.specs.declared.Place.TheVariants as place
 use Rattle.rules.specs.declared.Yard.{Yard}
 use Rattle.rules.specs.declared.Down.{Down}
-use Rattle.rules.specs.declared.Down.TheVariants as down
+use Rattle.rules.specs.Downs as down
 use Rattle.rules.specs.Verdict.{number_of, index_of}
 use Rattle.rules.specs.Plan.{empty_slot}
 use Rattle.rules.specs.Table.{plan_verdict}
@@ -60,11 +60,11 @@ pub data Answer : Type 0 where
   -- number and index; accepted is 0 at 0
   is : ℕ → ℕ → Answer
   -- supervisor, devices, down letter, and whether it is marked as lost
-  shows : Base → List Place → Down → Bool → Answer
+  shows : Base → List Place → Option Down → Bool → Answer
   stands : Base → Answer
 
-abbrev pub is_sent : Down → Bool
-is_sent down.None = false
+abbrev pub is_sent : Option Down → Bool
+is_sent down.none = false
 is_sent (down.LeaseReq i) = true
 is_sent (down.Grant i) = true
 is_sent (down.Cancel i) = true
@@ -114,23 +114,23 @@ unfoldable pub first_listing : List Case
 first_listing =
     case (line_of nothing_lost 1) (shows (base.Lease 1) (place.Entering ∷ place.Requesting ∷ []) (down.LeaseReq 1) false)
     ∷ case (line_of nothing_lost 2) (shows (base.Lease 2) (place.Running ∷ place.Entering ∷ []) (down.Grant 2) false)
-    ∷ case (line_of nothing_lost 3) (shows (base.Lease 2) (place.Running ∷ place.Entering ∷ []) down.None false)
-    ∷ case (line_of nothing_lost 4) (shows (base.Lease 2) (place.Running ∷ place.Entering ∷ []) down.None false)
-    ∷ case (line_of nothing_lost 5) (shows (base.Lease 2) (place.Running ∷ place.Running ∷ []) down.None false)
-    ∷ case (line_of nothing_lost 6) (shows (base.Lease 2) (place.Running ∷ place.Running ∷ []) down.None false)
-    ∷ case (line_of nothing_lost 7) (shows (base.Lease 2) (place.Running ∷ place.Exiting1 ∷ []) down.None false)
+    ∷ case (line_of nothing_lost 3) (shows (base.Lease 2) (place.Running ∷ place.Entering ∷ []) down.none false)
+    ∷ case (line_of nothing_lost 4) (shows (base.Lease 2) (place.Running ∷ place.Entering ∷ []) down.none false)
+    ∷ case (line_of nothing_lost 5) (shows (base.Lease 2) (place.Running ∷ place.Running ∷ []) down.none false)
+    ∷ case (line_of nothing_lost 6) (shows (base.Lease 2) (place.Running ∷ place.Running ∷ []) down.none false)
+    ∷ case (line_of nothing_lost 7) (shows (base.Lease 2) (place.Running ∷ place.Exiting1 ∷ []) down.none false)
     ∷ case (line_of nothing_lost 8) (shows (base.Cancel 1) (place.Exiting1 ∷ place.FallBack ∷ []) (down.Cancel 1) false)
-    ∷ case (line_of nothing_lost 9) (shows (base.Cancel 1) (place.Exiting1 ∷ place.FallBack ∷ []) down.None false)
-    ∷ case (line_of nothing_lost 10) (shows base.FallBack (place.FallBack ∷ place.FallBack ∷ []) down.None false)
+    ∷ case (line_of nothing_lost 9) (shows (base.Cancel 1) (place.Exiting1 ∷ place.FallBack ∷ []) down.none false)
+    ∷ case (line_of nothing_lost 10) (shows base.FallBack (place.FallBack ∷ place.FallBack ∷ []) down.none false)
     ∷ []
 
 -- Exit lost at tick 8, lines 8 to 11.
 unfoldable pub second_listing : List Case
 second_listing =
-    case (line_of exit_lost 8) (shows (base.Lease 2) (place.Running ∷ place.FallBack ∷ []) down.None false)
-    ∷ case (line_of exit_lost 9) (shows (base.Lease 2) (place.Exiting1 ∷ place.FallBack ∷ []) down.None false)
-    ∷ case (line_of exit_lost 10) (shows (base.Lease 2) (place.Exiting1 ∷ place.FallBack ∷ []) down.None false)
-    ∷ case (line_of exit_lost 11) (shows base.FallBack (place.FallBack ∷ place.FallBack ∷ []) down.None false)
+    case (line_of exit_lost 8) (shows (base.Lease 2) (place.Running ∷ place.FallBack ∷ []) down.none false)
+    ∷ case (line_of exit_lost 9) (shows (base.Lease 2) (place.Exiting1 ∷ place.FallBack ∷ []) down.none false)
+    ∷ case (line_of exit_lost 10) (shows (base.Lease 2) (place.Exiting1 ∷ place.FallBack ∷ []) down.none false)
+    ∷ case (line_of exit_lost 11) (shows base.FallBack (place.FallBack ∷ place.FallBack ∷ []) down.none false)
     ∷ []
 
 -- LeaseReq lost at tick 1, lines 1 to 4; Fall-Back at 11.
@@ -138,8 +138,8 @@ unfoldable pub third_listing : List Case
 third_listing =
     case (line_of lease_req_lost 1) (shows (base.Lease 1) (place.FallBack ∷ place.Requesting ∷ []) (down.LeaseReq 1) true)
     ∷ case (line_of lease_req_lost 2) (shows (base.Cancel 1) (place.FallBack ∷ place.Requesting ∷ []) (down.Cancel 1) false)
-    ∷ case (line_of lease_req_lost 3) (shows (base.Cancel 1) (place.FallBack ∷ place.Requesting ∷ []) down.None false)
-    ∷ case (line_of lease_req_lost 4) (shows (base.Cancel 1) (place.FallBack ∷ place.FallBack ∷ []) down.None false)
+    ∷ case (line_of lease_req_lost 3) (shows (base.Cancel 1) (place.FallBack ∷ place.Requesting ∷ []) down.none false)
+    ∷ case (line_of lease_req_lost 4) (shows (base.Cancel 1) (place.FallBack ∷ place.FallBack ∷ []) down.none false)
     ∷ case (supervisor_at lease_req_lost 10) (stands (base.Cancel 1))
     ∷ case (supervisor_at lease_req_lost 11) (stands base.FallBack)
     ∷ []

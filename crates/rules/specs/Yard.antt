@@ -1,5 +1,5 @@
 -- Document 01, "Yard and places": engaged, fresh, well formed.
-use Rattle.std.specs.Prelude.{ℕ, ◌-◌, Bool, true, false, not, cond, [], ◌∷◌, leb, ltb, eqb, get_or, replicate}
+use Rattle.std.specs.Prelude.{ℕ, ◌-◌, Bool, true, false, not, cond, [], ◌∷◌, leb, ltb, eqb, get_or, replicate, Option}
 use Rattle.laws.specs.Tests.{all_of, each}
 use Rattle.rules.specs.declared.Plan.{Plan}
 use Rattle.rules.specs.Verdict.{Verdict}
@@ -8,7 +8,7 @@ use Rattle.rules.specs.declared.Base.TheVariants as base
 use Rattle.rules.specs.declared.Place.{Place}
 use Rattle.rules.specs.declared.Place.TheVariants as place
 use Rattle.rules.specs.declared.Letter.{Letter}
-use Rattle.rules.specs.declared.Letter.TheVariants as letter
+use Rattle.rules.specs.Letters as letter
 use Rattle.rules.specs.declared.Device.{Device}
 use Rattle.rules.specs.declared.Yard.{Yard}
 use Rattle.rules.specs.declared.FreshAnswer.{FreshAnswer}
@@ -20,11 +20,11 @@ use Rattle.rules.specs.Table.{plan_verdict}
 abbrev pub same_place : Place → Place → Bool
 same_place a b = eqb (place_number a) (place_number b)
 
-abbrev pub same_letter : Letter → Letter → Bool
+abbrev pub same_letter : Option Letter → Option Letter → Bool
 same_letter a b = eqb (letter_number a) (letter_number b)
 
 -- Each device holds its place, its clock and at most one letter waiting to go up.
-abbrev pub at : Place → ℕ → Letter → Device
+abbrev pub at : Place → ℕ → Option Letter → Device
 at place clock letter = record { place = place; clock = clock; letter = letter }
 
 -- A device changes in these ways and keeps the rest of itself. It goes to a place, where its clock starts at 0; it writes a
@@ -32,17 +32,17 @@ at place clock letter = record { place = place; clock = clock; letter = letter }
 abbrev pub goes_to : Place → Device → Device
 goes_to place d = record { place = place; clock = 0; letter = d.letter }
 
-abbrev pub writes : Letter → Device → Device
+abbrev pub writes : Option Letter → Device → Device
 writes letter d = record { place = d.place; clock = d.clock; letter = letter }
 
-abbrev pub goes_writing : Place → Letter → Device → Device
+abbrev pub goes_writing : Place → Option Letter → Device → Device
 goes_writing place letter d = writes letter (goes_to place d)
 
 abbrev pub clock_at : ℕ → Device → Device
 clock_at clock d = record { place = d.place; clock = clock; letter = d.letter }
 
 abbrev pub fresh_device : Device
-fresh_device = at place.FallBack 0 letter.None
+fresh_device = at place.FallBack 0 letter.none
 
 -- Fresh: all in Fall-Back, clocks 0, no letters.
 unfoldable pub fresh_yard : Yard
@@ -97,8 +97,8 @@ place_formed p i place.Exiting2 c = ltb c (slot p i).X
 
 -- Only participants hold a letter, Approve only in Entering with clock 0, Deny only in Fall-Back with clock 0.
 -- No other letter waits between ticks.
-unfoldable pub letter_formed : Plan → ℕ → Letter → Place → ℕ → Bool
-letter_formed p i letter.None pl c = true
+unfoldable pub letter_formed : Plan → ℕ → Option Letter → Place → ℕ → Bool
+letter_formed p i letter.none pl c = true
 letter_formed p i letter.Approve pl c = all_of (is_participant p i ∷ same_place pl place.Entering ∷ eqb c 0 ∷ [])
 letter_formed p i letter.Deny pl c = all_of (is_participant p i ∷ same_place pl place.FallBack ∷ eqb c 0 ∷ [])
 letter_formed p i letter.Request pl c = false
@@ -106,7 +106,7 @@ letter_formed p i letter.Cancel pl c = false
 letter_formed p i letter.Exit pl c = false
 
 abbrev pub is_fresh : Device → Bool
-is_fresh d = all_of (same_place d.place place.FallBack ∷ eqb d.clock 0 ∷ same_letter d.letter letter.None ∷ [])
+is_fresh d = all_of (same_place d.place place.FallBack ∷ eqb d.clock 0 ∷ same_letter d.letter letter.none ∷ [])
 
 -- Slots above N are fresh.
 unfoldable pub device_formed : Plan → ℕ → Device → Bool

@@ -57,10 +57,9 @@ pub enum Place {
     Exiting2,
 }
 
-// The letter that waits at a device to go up.
+// A letter of a device's own, on its way up.
 #[derive(Clone, Copy, Debug, PartialEq, Eq)]
 pub enum Letter {
-    None,
     Request,
     Cancel,
     Approve,
@@ -74,7 +73,7 @@ pub enum Letter {
 pub struct Device {
     pub place: Place,
     pub clock: u16,
-    pub letter: Letter,
+    pub letter: Option<Letter>,
 }
 
 // The supervisor's place with its place clock and its lease clock, and eight devices: device i is devices[i - 1].
@@ -96,10 +95,9 @@ pub struct Record {
     pub lost: u8,
 }
 
-// The letter that the supervisor sends down in a tick, with the device that it is for.
+// A letter that the supervisor sends down, with the device that it is for.
 #[derive(Clone, Copy, Debug, PartialEq, Eq)]
 pub enum Down {
-    None,
     LeaseReq(u8),
     Grant(u8),
     Cancel(u8),
@@ -121,7 +119,7 @@ pub struct BaseMove {
     pub base: Base,
     pub clock: u16,
     pub lease: u32,
-    pub down: Down,
+    pub down: Option<Down>,
 }
 
 #[derive(Clone, Copy)]
@@ -134,7 +132,7 @@ pub struct FreshAnswer {
 pub struct TickAnswer {
     pub verdict: Verdict,
     pub yard: Yard,
-    pub down: Down,
+    pub down: Option<Down>,
 }
 
 #[derive(Clone, Copy)]

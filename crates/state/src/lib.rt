@@ -4,7 +4,7 @@
 ghost use Rattle.std.specs.Prelude.{◌≡◌, ◌≤◌};
 ghost use Rattle.rules.specs.Plan.{slot, LS, is_device, is_participant};
 ghost use Rattle.rules.specs.Yard.{index_formed, clock_formed, lease_formed, place_formed, letter_formed, is_fresh, device_formed, base_formed, well_formed, same_place, same_letter};
-ghost use Rattle.rules.specs.declared.Letter.TheVariants as letter;
+ghost use Rattle.rules.specs.Letters as letter;
 
 use lease::lease_length;
 use numbers::widths::wide;
@@ -74,10 +74,10 @@ fn same_place(a: Place, b: Place) -> bool
     a == b
 }
 
-fn no_letter(l: Letter) -> bool
-    ensures { result ≡ same_letter l letter.None }
+fn no_letter(l: Option<Letter>) -> bool
+    ensures { result ≡ same_letter l letter.none }
 {
-    l == Letter::None
+    l.is_none()
 }
 
 // The slot of device i, which callers keep within 1 to 8.
@@ -105,16 +105,16 @@ fn place_formed(p: Plan, i: u8, place: Place, clock: u16) -> bool
     }
 }
 
-fn letter_formed(p: Plan, i: u8, letter: Letter, place: Place, clock: u16) -> bool
+fn letter_formed(p: Plan, i: u8, letter: Option<Letter>, place: Place, clock: u16) -> bool
     ensures { result ≡ letter_formed p i letter place clock }
 {
     match letter {
-        Letter::None => true,
-        Letter::Request => false,
-        Letter::Cancel => false,
-        Letter::Approve => is_participant(p, i) & same_place(place, Place::Entering) & (clock == 0),
-        Letter::Deny => is_participant(p, i) & same_place(place, Place::FallBack) & (clock == 0),
-        Letter::Exit => false,
+        None => true,
+        Some(Letter::Request) => false,
+        Some(Letter::Cancel) => false,
+        Some(Letter::Approve) => is_participant(p, i) & same_place(place, Place::Entering) & (clock == 0),
+        Some(Letter::Deny) => is_participant(p, i) & same_place(place, Place::FallBack) & (clock == 0),
+        Some(Letter::Exit) => false,
     }
 }
 

@@ -43,38 +43,38 @@ pub fn place_of(number: u8) -> Place
     Place::FallBack
 }
 
-pub fn letter_number(letter: Letter) -> u8
+pub fn letter_number(letter: Option<Letter>) -> u8
     ensures { result ≡ letter_number letter }
 {
     match letter {
-        Letter::None => 0,
-        Letter::Request => 1,
-        Letter::Cancel => 2,
-        Letter::Approve => 3,
-        Letter::Deny => 4,
-        Letter::Exit => 5,
+        None => 0,
+        Some(Letter::Request) => 1,
+        Some(Letter::Cancel) => 2,
+        Some(Letter::Approve) => 3,
+        Some(Letter::Deny) => 4,
+        Some(Letter::Exit) => 5,
     }
 }
 
-pub fn letter_of(number: u8) -> Letter
+pub fn letter_of(number: u8) -> Option<Letter>
     ensures { result ≡ letter_of number }
 {
     if number == 1 {
-        return Letter::Request;
+        return Some(Letter::Request);
     }
     if number == 2 {
-        return Letter::Cancel;
+        return Some(Letter::Cancel);
     }
     if number == 3 {
-        return Letter::Approve;
+        return Some(Letter::Approve);
     }
     if number == 4 {
-        return Letter::Deny;
+        return Some(Letter::Deny);
     }
     if number == 5 {
-        return Letter::Exit;
+        return Some(Letter::Exit);
     }
-    Letter::None
+    None
 }
 
 pub fn base_number(base: Base) -> u8
@@ -115,28 +115,28 @@ pub fn base_of(number: u8, i: u8) -> Base
     Base::FallBack
 }
 
-pub fn down_number(l: Down) -> u8
+pub fn down_number(l: Option<Down>) -> u8
     ensures { result ≡ down_number l }
 {
     match l {
-        Down::None => 0,
-        Down::LeaseReq(_) => 1,
-        Down::Grant(_) => 2,
-        Down::Cancel(_) => 3,
-        Down::Abort(_) => 4,
+        None => 0,
+        Some(Down::LeaseReq(_)) => 1,
+        Some(Down::Grant(_)) => 2,
+        Some(Down::Cancel(_)) => 3,
+        Some(Down::Abort(_)) => 4,
     }
 }
 
 // The device that a down letter is for; 0 for none.
-pub fn down_index(l: Down) -> u8
+pub fn down_index(l: Option<Down>) -> u8
     ensures { result ≡ down_index l }
 {
     match l {
-        Down::None => 0,
-        Down::LeaseReq(i) => i,
-        Down::Grant(i) => i,
-        Down::Cancel(i) => i,
-        Down::Abort(i) => i,
+        None => 0,
+        Some(Down::LeaseReq(i)) => i,
+        Some(Down::Grant(i)) => i,
+        Some(Down::Cancel(i)) => i,
+        Some(Down::Abort(i)) => i,
     }
 }
 

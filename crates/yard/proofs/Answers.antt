@@ -1,4 +1,5 @@
 -- What an answer that is no refusal tells, and what the answers then are.
+use Rattle.std.specs.Prelude.{Option}
 use Prim.Native.Nat.{ℕ, ◌≤◌}
 use mathlib.Core.Path.{◌≡◌, sym, ◌∙◌}
 use mathlib.Core.Bool.{true}
@@ -10,7 +11,7 @@ use Rattle.rules.specs.declared.Plan.{Plan}
 use Rattle.rules.specs.declared.Yard.{Yard}
 use Rattle.rules.specs.declared.Record.{Record}
 use Rattle.rules.specs.declared.Down.{Down}
-use Rattle.rules.specs.declared.Down.TheVariants as down
+use Rattle.rules.specs.Downs as down
 use Rattle.rules.specs.Verdict.{Verdict}
 use Rattle.rules.specs.Verdict.{Accepted, Refused}
 use Rattle.rules.specs.declared.RunAnswer.{RunAnswer}
@@ -39,7 +40,7 @@ module _ (p : Plan) (y : Yard) (r : Record) (taken : tick_verdict p y r ≡ Acce
 
 module _ (p : Plan) (y : Yard) (r : Record) (v : Verdict) (v_is : v ≡ tick_verdict p y r) where
   pub tick_refused :
-      (k i : ℕ) → v ≡ Refused k i → record { verdict = v; yard = y; down = down.None } ≡ tick_answer p y r
+      (k i : ℕ) → v ≡ Refused k i → record { verdict = v; yard = y; down = down.none } ≡ tick_answer p y r
   unfolding tick_answer
   tick_refused k i e =
       let q : tick_verdict p y r ≡ Refused k i = sym v_is ∙ e in
@@ -47,7 +48,7 @@ module _ (p : Plan) (y : Yard) (r : Record) (v : Verdict) (v_is : v ≡ tick_ver
 
   -- The single tick goes through the loop with a roll of its one record.
   pub tick_accepted :
-      v ≡ Accepted → (end : Yard) (l : Down)
+      v ≡ Accepted → (end : Yard) (l : Option Down)
       → end ≡ after p y (r.command ∷ r.flags ∷ r.willing ∷ r.lost ∷ []) 1
       → l ≡ last_down p y (r.command ∷ r.flags ∷ r.willing ∷ r.lost ∷ []) 1
       → record { verdict = v; yard = end; down = l } ≡ tick_answer p y r

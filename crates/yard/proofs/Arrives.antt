@@ -1,4 +1,5 @@
 -- Step 4 reaches one device or none, and moves none into or out of being engaged.
+use Rattle.std.specs.Prelude.{Option}
 use Prim.Native.Nat.{ℕ, ◌-◌, ◌≤◌}
 use native.Mathlib.Omega.{arith}
 use mathlib.Core.Path.{◌≡◌, refl, sym, ◌∙◌, ap}
@@ -15,7 +16,7 @@ use Rattle.rules.specs.declared.Place.{Place}
 use Rattle.rules.specs.declared.Place.TheVariants as place
 use Rattle.rules.specs.declared.Letter.{Letter}
 use Rattle.rules.specs.declared.Down.{Down}
-use Rattle.rules.specs.declared.Down.TheVariants as down
+use Rattle.rules.specs.Downs as down
 use Rattle.rules.specs.declared.Device.{Device}
 use Rattle.rules.specs.Yard.{at, engaged}
 use Rattle.rules.specs.Tick.Step4.{hear_lease_req, hear_grant, hear_cancel, arrived}
@@ -26,16 +27,16 @@ use Rattle.yard.proofs.Sweeps.{slot_at, sweep, delivered_by, sweep_still, sweep_
 
 -- Only the device that a letter is for heeds it.
 arrived_other :
-    (s : Slot) (willing : Bool) (l : Down) (i : ℕ) (d : Device) → (i ≡ down_index l → ⊥) → arrived s willing l i d ≡ d
+    (s : Slot) (willing : Bool) (l : Option Down) (i : ℕ) (d : Device) → (i ≡ down_index l → ⊥) → arrived s willing l i d ≡ d
 unfolding arrived
-arrived_other s willing down.None i d other = refl
+arrived_other s willing down.none i d other = refl
 arrived_other s willing (down.LeaseReq k) i d other = rw (ne_eqb i k other)
 arrived_other s willing (down.Grant k) i d other = rw (ne_eqb i k other)
 arrived_other s willing (down.Cancel k) i d other = rw (ne_eqb i k other)
 arrived_other s willing (down.Abort k) i d other = rw (ne_eqb i k other)
 
 module _
-    (slots : List Slot) (lost : Bool) (willing : ℕ) (l : Down) (n i : ℕ) (ds : List Device)
+    (slots : List Slot) (lost : Bool) (willing : ℕ) (l : Option Down) (n i : ℕ) (ds : List Device)
     (eight : length ds ≡ 8) (i_is : i ≡ reached_by n lost l)
   where
     abbrev delivers : ℕ → Device → Device
@@ -72,7 +73,7 @@ module _
         lost_none : lost ≡ true → reached_by n lost l ≡ 0
         lost_none q = rw q (case (leb (down_index l) n) (λ e. rw e) (λ e. rw e))
 
-lease_req : (s : Slot) (willing : Bool) (pl : Place) (c : ℕ) (l : Letter) → engaged (hear_lease_req s willing pl (at pl c l)).place ≡ engaged pl
+lease_req : (s : Slot) (willing : Bool) (pl : Place) (c : ℕ) (l : Option Letter) → engaged (hear_lease_req s willing pl (at pl c l)).place ≡ engaged pl
 unfolding engaged
 lease_req s willing place.FallBack c l =
     case (eqb c s.F) (λ q. rw q (case willing (λ w. rw w) (λ w. rw w))) (λ q. rw q)
@@ -82,7 +83,7 @@ lease_req s willing place.Running c l = refl
 lease_req s willing place.Exiting1 c l = refl
 lease_req s willing place.Exiting2 c l = refl
 
-grant : (pl : Place) (c : ℕ) (l : Letter) → engaged (hear_grant pl (at pl c l)).place ≡ engaged pl
+grant : (pl : Place) (c : ℕ) (l : Option Letter) → engaged (hear_grant pl (at pl c l)).place ≡ engaged pl
 unfolding engaged
 grant place.FallBack c l = refl
 grant place.Requesting c l = refl
@@ -91,7 +92,7 @@ grant place.Running c l = refl
 grant place.Exiting1 c l = refl
 grant place.Exiting2 c l = refl
 
-cancel : (pl : Place) (c : ℕ) (l : Letter) → engaged (hear_cancel pl (at pl c l)).place ≡ engaged pl
+cancel : (pl : Place) (c : ℕ) (l : Option Letter) → engaged (hear_cancel pl (at pl c l)).place ≡ engaged pl
 unfolding engaged
 cancel place.FallBack c l = refl
 cancel place.Requesting c l = refl
@@ -100,9 +101,9 @@ cancel place.Running c l = refl
 cancel place.Exiting1 c l = refl
 cancel place.Exiting2 c l = refl
 
-arrival : (s : Slot) (willing : Bool) (l : Down) (i : ℕ) (d : Device) → engaged (arrived s willing l i d).place ≡ engaged d.place
+arrival : (s : Slot) (willing : Bool) (l : Option Down) (i : ℕ) (d : Device) → engaged (arrived s willing l i d).place ≡ engaged d.place
 unfolding arrived
-arrival s willing down.None i d = refl
+arrival s willing down.none i d = refl
 arrival s willing (down.LeaseReq k) i d =
     case (eqb i k) (λ q. rw q (lease_req s willing d.place d.clock d.letter)) (λ q. rw q)
 arrival s willing (down.Grant k) i d = case (eqb i k) (λ q. rw q (grant d.place d.clock d.letter)) (λ q. rw q)
@@ -111,7 +112,7 @@ arrival s willing (down.Abort k) i d = case (eqb i k) (λ q. rw q (cancel d.plac
 
 -- So the byte stays when a letter arrives at device i.
 pub arrival_byte :
-    (n i : ℕ) (ds : List Device) (s : Slot) (willing : Bool) (l : Down) (x : Device) → length ds ≡ 8 → 1 ≤ i → i ≤ n → n ≤ 8
+    (n i : ℕ) (ds : List Device) (s : Slot) (willing : Bool) (l : Option Down) (x : Device) → length ds ≡ 8 → 1 ≤ i → i ≤ n → n ≤ 8
     → x ≡ arrived s willing l i (device_at ds i) → byte_of n (set ds (i - 1) x) ≡ byte_of n ds
 arrival_byte n i ds s willing l x eight some in_n few x_is =
     byte_kept n (i - 1) ds (omega arith) (omega (arith, eight)) x

@@ -1,4 +1,5 @@
 -- What the loop over ticks knows before each, and one tick more.
+use Rattle.std.specs.Prelude.{Option}
 use Prim.Native.Nat.{ℕ, ◌+◌, ◌≤◌, ◌<◌}
 use native.Mathlib.Omega.{arith}
 use native.Mathlib.Numerals.{add-one}
@@ -11,7 +12,7 @@ use Rattle.rules.specs.declared.Plan.{Plan}
 use Rattle.rules.specs.declared.Yard.{Yard}
 use Rattle.rules.specs.declared.Record.{Record}
 use Rattle.rules.specs.declared.Down.{Down}
-use Rattle.rules.specs.declared.Down.TheVariants as down
+use Rattle.rules.specs.Downs as down
 use Rattle.rules.specs.Verdict.{Accepted}
 use Rattle.rules.specs.Table.{plan_verdict}
 use Rattle.rules.specs.Yard.{device, well_formed}
@@ -26,7 +27,7 @@ use Rattle.yard.proofs.Ready.{Ready, ready}
 
 module _ (p : Plan) (y : Yard) (roll buffer : List ℕ) (ticks last : ℕ) where
   -- k ticks are done, and the initializer stands at `last`.
-  pub record Rolled (k : ℕ) (now : Yard) (l : Down) (written : List ℕ) (byte : ℕ) : Type 0 where
+  pub record Rolled (k : ℕ) (now : Yard) (l : Option Down) (written : List ℕ) (byte : ℕ) : Type 0 where
     pub within : k ≤ ticks
     pub yard : now ≡ after p y roll k
     pub down : l ≡ last_down p y roll k
@@ -43,7 +44,7 @@ module _ (p : Plan) (y : Yard) (roll buffer : List ℕ) (ticks last : ℕ) where
 
     pub starts :
         (byte : ℕ) → length y.devices ≡ 8 → last + 1 ≡ p.N → byte ≡ byte_of (last + 1) y.devices
-        → Rolled 0 y down.None buffer byte
+        → Rolled 0 y down.none buffer byte
     unfolding after last_down engaged_bytes
     starts byte eight initializer byte_is = record {
       within = omega arith;
@@ -58,7 +59,7 @@ module _ (p : Plan) (y : Yard) (roll buffer : List ℕ) (ticks last : ℕ) where
     }
 
     pub rolls :
-        (k : ℕ) (now next : Yard) (l m : Down) (written : List ℕ) (b byte : ℕ) (r : Record)
+        (k : ℕ) (now next : Yard) (l m : Option Down) (written : List ℕ) (b byte : ℕ) (r : Record)
         → Rolled k now l written b → k < ticks → ticks ≤ length buffer → r ≡ record_at roll k
         → next ≡ tick p now r → m ≡ (sent p now r).down → byte ≡ byte_of p.N next.devices
         → Rolled (k + 1) next m (set written k byte) byte

@@ -1,4 +1,5 @@
 -- One tick as this crate computes it is the tick of document 01.
+use Rattle.std.specs.Prelude.{Option}
 use Prim.Native.Nat.{ℕ, ◌+◌, ◌-◌, ◌≤◌}
 use native.Mathlib.Omega.{arith}
 use mathlib.Core.Path.{◌≡◌, refl, sym, ◌∙◌, ap}
@@ -13,7 +14,7 @@ use Rattle.rules.specs.declared.Yard.{Yard}
 use Rattle.rules.specs.declared.Record.{Record}
 use Rattle.rules.specs.declared.Device.{Device}
 use Rattle.rules.specs.declared.Letter.{Letter}
-use Rattle.rules.specs.declared.Letter.TheVariants as letter
+use Rattle.rules.specs.Letters as letter
 use Rattle.rules.specs.declared.BaseMove.{BaseMove}
 use Rattle.rules.specs.Plan.{slot, terms}
 use Rattle.rules.specs.Yard.{writes, device}
@@ -57,7 +58,7 @@ module _ (p : Plan) (y : Yard) (r : Record) where
   up = sweep p.N does y.devices
 
   -- What the supervisor does when it hears this of the initializer and of the device of its place.
-  abbrev pub hearing : Letter → Letter → BaseMove
+  abbrev pub hearing : Option Letter → Option Letter → BaseMove
   hearing last own =
       let t = terms p in
       base_move t (approval r) last own y.base (place_clock t y.base y.clock) (lease_clock y.base y.lease)
@@ -66,7 +67,7 @@ module _ (p : Plan) (y : Yard) (r : Record) where
   unfolding step1 step2 slot
   rises = sym (two_passes p (clocked p) (moved_at p r) y (step1 p y) refl)
 
-  settles : (tick p y r).devices ≡ sweep p.N (λ i d. delivers i (writes letter.None d)) (risen p y r).devices
+  settles : (tick p y r).devices ≡ sweep p.N (λ i d. delivers i (writes letter.none d)) (risen p y r).devices
   unfolding tick sent step1 step2 step3 step4 slot
   settles = two_passes p letter_gone (delivered p r (turn p y r).down) (risen p y r) (sent p y r).yard refl
 
@@ -77,7 +78,7 @@ module _ (p : Plan) (y : Yard) (r : Record) where
 
     -- It is over, the supervisor has heard what it hears and has made its move, and the down letter has arrived.
     module _
-        (left devices : List Device) (from_last from_own : Letter) (byte : ℕ) (m : BaseMove)
+        (left devices : List Device) (from_last from_own : Option Letter) (byte : ℕ) (m : BaseMove)
         (come : Come o (last + 1) left from_own byte) (from_last_is : from_last ≡ hears o last)
         (m_is : m ≡ hearing from_last from_own)
         (devices_are : devices ≡ sweep p.N (delivered_by p.slots (down_lost r) r.willing m.down) left)
@@ -93,8 +94,8 @@ module _ (p : Plan) (y : Yard) (r : Record) where
         devices_settled : devices ≡ (tick p y r).devices
         devices_settled =
             devices_are
-            ∙ rw (rw n at come.devices, m_turn) (sweep_both (λ i d. writes letter.None (does i d)) delivers p.N y.devices)
-            ∙ sym (sweep_both does (λ i d. delivers i (writes letter.None d)) p.N y.devices)
+            ∙ rw (rw n at come.devices, m_turn) (sweep_both (λ i d. writes letter.none (does i d)) delivers p.N y.devices)
+            ∙ sym (sweep_both does (λ i d. delivers i (writes letter.none d)) p.N y.devices)
             ∙ rw rises (sym settles)
 
         -- The yard and the down letter that the code answers.

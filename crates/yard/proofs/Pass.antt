@@ -1,4 +1,5 @@
 -- The pass of steps 1 and 2 over the devices, one device further: the devices, the letter that is listened for, the byte.
+use Rattle.std.specs.Prelude.{Option}
 use Prim.Native.Nat.{ℕ, ◌+◌, ◌*◌, ◌≤◌, ◌<◌}
 use native.Mathlib.Omega.{arith}
 use mathlib.Core.Path.{◌≡◌, refl, sym, ◌∙◌, ap}
@@ -16,7 +17,7 @@ use Rattle.rules.specs.declared.Record.{Record}
 use Rattle.rules.specs.declared.Slot.{Slot}
 use Rattle.rules.specs.declared.Device.{Device}
 use Rattle.rules.specs.declared.Letter.{Letter}
-use Rattle.rules.specs.declared.Letter.TheVariants as letter
+use Rattle.rules.specs.Letters as letter
 use Rattle.rules.specs.Plan.{empty_slot}
 use Rattle.rules.specs.Yard.{writes, clock_at, fresh_device}
 use Rattle.rules.specs.Numbers.{place_number}
@@ -42,26 +43,26 @@ module _ (o : Pass) where
   does = risen_by o.plan.Q (o.last + 1) o.plan.slots o.input.command
 
   abbrev pub leaves : ℕ → Device → Device
-  leaves i d = writes letter.None (does i d)
+  leaves i d = writes letter.none (does i d)
 
   abbrev pub all : List Device
   all = sweep (o.last + 1) does o.start
 
   -- What is heard of the device at k, and of the one that is listened to when the pass has come to k.
-  abbrev pub hears : ℕ → Letter
+  abbrev pub hears : ℕ → Option Letter
   hears k = heard_of (bit o.input.lost k) (get_or all k fresh_device).letter
 
-  abbrev pub sought : ℕ → Letter
-  sought k = cond (ltb o.own k) (hears o.own) letter.None
+  abbrev pub sought : ℕ → Option Letter
+  sought k = cond (ltb o.own k) (hears o.own) letter.none
 
   -- The pass has come to k.
-  pub record Come (k : ℕ) (now : List Device) (from_own : Letter) (byte : ℕ) : Type 0 where
+  pub record Come (k : ℕ) (now : List Device) (from_own : Option Letter) (byte : ℕ) : Type 0 where
     pub devices : now ≡ sweep k leaves o.start
     pub letter : from_own ≡ sought k
     pub byte_is : byte ≡ byte_of (o.last + 1) now
 
   -- What the loop knows: the device that it comes to is within reach, and its clock may add 1.
-  pub record Passed (k : ℕ) (now : List Device) (from_own : Letter) (byte : ℕ) : Type 0 where
+  pub record Passed (k : ℕ) (now : List Device) (from_own : Option Letter) (byte : ℕ) : Type 0 where
     pub within : k ≤ o.last
     pub room : o.last < 8
     pub come : Come k now from_own byte
@@ -96,7 +97,7 @@ module _ (o : Pass) where
   untouched k now few devices = rw devices (sweep_here leaves o.start k few)
 
   passed :
-      (k : ℕ) (now : List Device) (from_own : Letter) (byte : ℕ) → k ≤ o.last → o.last < 8 → Come k now from_own byte
+      (k : ℕ) (now : List Device) (from_own : Option Letter) (byte : ℕ) → k ≤ o.last → o.last < 8 → Come k now from_own byte
       → ((j : ℕ) → j < 8 → (get_or o.start j fresh_device).clock ≤ 36000)
       → Passed k now from_own byte
   passed k now from_own byte h room come clocks = record {
@@ -110,16 +111,16 @@ module _ (o : Pass) where
 
   pub starts :
       (byte : ℕ) → o.last < 8 → length o.start ≡ 8 → ((j : ℕ) → j < 8 → (get_or o.start j fresh_device).clock ≤ 36000)
-      → byte ≡ byte_of (o.last + 1) o.start → Passed 0 o.start letter.None byte
+      → byte ≡ byte_of (o.last + 1) o.start → Passed 0 o.start letter.none byte
   starts byte room eight clocks byte_is =
-      let come : Come 0 o.start letter.None byte = record {
+      let come : Come 0 o.start letter.none byte = record {
         devices = sweep_start leaves o.start eight;
         letter = rw (le-ltb o.own 0 (omega arith));
         byte_is = byte_is;
       } in
-      passed 0 o.start letter.None byte (omega arith) room come clocks
+      passed 0 o.start letter.none byte (omega arith) room come clocks
 
-module _ {o : Pass} {k : ℕ} {now : List Device} {from_own : Letter} {byte : ℕ} (inv : Passed o k now from_own byte) where
+module _ {o : Pass} {k : ℕ} {now : List Device} {from_own : Option Letter} {byte : ℕ} (inv : Passed o k now from_own byte) where
   abbrev s : Slot
   s = get_or o.plan.slots k empty_slot
 
@@ -136,7 +137,7 @@ module _ {o : Pass} {k : ℕ} {now : List Device} {from_own : Letter} {byte : �
       ∙ rw (untouched o k now (omega arith) inv.come.devices) (sym (done o k inv.within inv.room ∙ rw (back k)))
 
   onward :
-      (x : Device) (heard : Letter) (b : ℕ) → x ≡ writes letter.None there → heard ≡ hears o k
+      (x : Device) (heard : Option Letter) (b : ℕ) → x ≡ writes letter.none there → heard ≡ hears o k
       → b + bit_of k here ≡ byte + bit_of k x
       → Come o (k + 1) (set now k x) (cond (eqb k o.own) heard from_own) b
   onward x heard b x_is heard_is b_is = record {
@@ -144,7 +145,7 @@ module _ {o : Pass} {k : ℕ} {now : List Device} {from_own : Letter} {byte : �
         omega (arith, b_is, inv.come.byte_is, byte_set (o.last + 1) k now (omega arith) (omega (arith, inv.eight)) x);
     devices =
         rw inv.come.devices
-        (sweep_next (leaves o) o.start k x (omega arith) (x_is ∙ ap (writes letter.None) (done o k inv.within inv.room)));
+        (sweep_next (leaves o) o.start k x (omega arith) (x_is ∙ ap (writes letter.none) (done o k inv.within inv.room)));
     letter =
         case (eqb k own)
         (λ e. rw (e, lt-ltb own (k + 1) (omega (arith, eqb-true k own e))) (heard_is ∙ ap (hears o) (eqb-true k own e)))
@@ -168,27 +169,27 @@ module _ {o : Pass} {k : ℕ} {now : List Device} {from_own : Letter} {byte : �
   moves first heeded {up} {b} heeds rises b_is =
       let same = does_here first heeded heeds in
       let heard : up.heard ≡ hears o k = ap (λ (u : Risen). u.heard) rises ∙ ap (λ (d : Device). heard_of (bit o.input.lost k) d.letter) same in
-      (onward up.device up.heard b (ap (λ (u : Risen). u.device) rises ∙ ap (writes letter.None) same) heard b_is, heard)
+      (onward up.device up.heard b (ap (λ (u : Risen). u.device) rises ∙ ap (writes letter.none) same) heard b_is, heard)
 
   -- Nothing was due: only its clock has moved.
   pub stays :
       {heeded clock : ℕ} {row : List ℕ} → Heeds o k true heeded → row ≡ row_of o.plan.Q o.plan.slots
       → Still (get_or row (6 * k + place_number here.place) 0) heeded here clock
-      → Come o (k + 1) (set now k (clock_at clock here)) from_own byte × (letter.None ≡ hears o k)
+      → Come o (k + 1) (set now k (clock_at clock here)) from_own byte × (letter.none ≡ hears o k)
   stays {heeded} {clock} {row} heeds row_is still =
       let time = time_at o.plan.Q o.plan.slots k (omega arith) (place_number here.place) (number_below here.place) in
       let same = sym (does_here true heeded heeds) ∙ still.device o.plan.Q s (rw row_is time) in
-      let heard : letter.None ≡ hears o k =
+      let heard : letter.none ≡ hears o k =
       rw (same, still.silent) (case (bit o.input.lost k) (λ q. rw q) (λ q. rw q)) in
-      let on = onward (clock_at clock here) letter.None byte (rw same (rw still.silent)) heard refl in
-      let unheard : cond (eqb k o.own) letter.None from_own ≡ from_own =
+      let on = onward (clock_at clock here) letter.none byte (rw same (rw still.silent)) heard refl in
+      let unheard : cond (eqb k o.own) letter.none from_own ≡ from_own =
       case (eqb k o.own)
       (λ e. rw e (sym (inv.come.letter ∙ rw (le-ltb o.own k (omega (arith, eqb-true k o.own e))))))
       (λ e. rw e) in
       (rw unheard at on, heard)
 
   -- The next device.
-  pub next_passed : {next : List Device} {l : Letter} {b : ℕ} → k < o.last → Come o (k + 1) next l b → Passed o (k + 1) next l b
+  pub next_passed : {next : List Device} {l : Option Letter} {b : ℕ} → k < o.last → Come o (k + 1) next l b → Passed o (k + 1) next l b
   next_passed {next} {l} {b} low come = passed o (k + 1) next l b (omega arith) inv.room come inv.clocks
 
   -- The byte may change at k.

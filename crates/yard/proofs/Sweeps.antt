@@ -1,5 +1,6 @@
 -- One pass over the devices: what each does, how the pass begins, what stands where it has come to, how it goes on.
 -- Device i's slot and the device itself stand at i - 1.
+use Rattle.std.specs.Prelude.{Option}
 use Prim.Native.Nat.{ℕ, ◌+◌, ◌-◌, ◌≤◌, ◌<◌}
 use native.Mathlib.Omega.{arith}
 use mathlib.Core.Path.{◌≡◌, sym, ◌∙◌, ap}
@@ -35,7 +36,7 @@ abbrev pub risen_by : ℕ → ℕ → List Slot → ℕ → ℕ → Device → D
 risen_by Q n slots command i d = moved Q (slot_at slots i) (eqb i n) command (clocked_by (slot_at slots i) d)
 
 -- Step 4 of device i.
-abbrev pub delivered_by : List Slot → Bool → ℕ → Down → ℕ → Device → Device
+abbrev pub delivered_by : List Slot → Bool → ℕ → Option Down → ℕ → Device → Device
 delivered_by slots lost willing l i d = cond lost d (arrived (slot_at slots i) (bit willing (i - 1)) l i d)
 
 -- Device k + 1 stands at k.

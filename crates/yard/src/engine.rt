@@ -40,7 +40,7 @@ fn terms_of(p: Plan) -> Terms
 }
 
 // The supervisor's clocks and its move, by what it hears of the initializer and of the device that its place is about.
-fn supervise(t: Terms, flags: u8, last: Letter, own: Letter, s: BaseMove) -> BaseMove
+fn supervise(t: Terms, flags: u8, last: Option<Letter>, own: Option<Letter>, s: BaseMove) -> BaseMove
     requires { (s.clock ≤ 36000) × (s.lease ≤ 108000) }
     ensures { result ≡ base_move t (bits.bit flags 0) last own s.base (place_clock t s.base s.clock) (lease_clock s.base s.lease) }
 {
@@ -54,7 +54,7 @@ fn supervise(t: Terms, flags: u8, last: Letter, own: Letter, s: BaseMove) -> Bas
 #[derive(Clone, Copy)]
 pub(crate) struct Stepped {
     pub yard: Yard,
-    pub down: Down,
+    pub down: Option<Down>,
 }
 
 // As many ticks as asked, from a state that is well formed under a plan that is accepted; the buffer has room. Beyond
@@ -75,7 +75,7 @@ pub(crate) fn roll_on(p: Plan, y: Yard, roll: &[u8], ticks: usize, engaged: &mut
         base,
         clock: y.clock,
         lease: y.lease,
-        down: Down::None,
+        down: None,
     };
     // The byte changes only where a device moves. To read a device whose clock has just been stored would cost more than all
     // else in a tick in which nothing is due.
@@ -84,7 +84,7 @@ pub(crate) fn roll_on(p: Plan, y: Yard, roll: &[u8], ticks: usize, engaged: &mut
     while k < ticks {
         let r = record_at(roll, k);
         let own = own_index(supervisor);
-        let mut from_own = Letter::None;
+        let mut from_own = None;
         // The participants; then the initializer, which alone heeds the command.
         let mut i: usize = 0;
         while i < last {
@@ -103,7 +103,7 @@ pub(crate) fn roll_on(p: Plan, y: Yard, roll: &[u8], ticks: usize, engaged: &mut
             }
             i += 1;
         }
-        let mut from_last = Letter::None;
+        let mut from_last = None;
         let pace = pace_of(&row, last, r.command, devices[last]);
         match pace {
             Pace::NothingDue(clock) => {

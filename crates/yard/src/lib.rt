@@ -18,7 +18,7 @@ use device::fresh_device;
 use engine::roll_on;
 use refusals::{run_verdict, tick_verdict};
 use rolls::ticks_to_do;
-use rules::{Base, Down, FreshAnswer, Plan, Record, RunAnswer, TickAnswer, Yard};
+use rules::{Base, FreshAnswer, Plan, Record, RunAnswer, TickAnswer, Yard};
 
 fn fresh_yard() -> Yard
     ensures { result ≡ fresh_yard }
@@ -51,7 +51,7 @@ pub fn tick(p: Plan, y: Yard, r: Record) -> TickAnswer
         return TickAnswer {
             verdict,
             yard: y,
-            down: Down::None,
+            down: None,
         };
     };
     let roll = [r.command, r.flags, r.willing, r.lost];

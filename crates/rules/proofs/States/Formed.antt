@@ -1,4 +1,5 @@
 -- A well-formed state, read as facts: what the tests of `well_formed` say, both ways.
+use Rattle.std.specs.Prelude.{Option}
 use Prim.Native.Nat.{ℕ, zero, suc, ◌≤◌, ◌<◌}
 use mathlib.Core.Path.{◌≡◌, refl, sym, ◌∙◌, ap}
 use mathlib.Core.Bool.{true, false≢true}
@@ -11,7 +12,7 @@ use Rattle.rules.specs.declared.Base.TheVariants as base
 use Rattle.rules.specs.declared.Place.{Place}
 use Rattle.rules.specs.declared.Place.TheVariants as place
 use Rattle.rules.specs.declared.Letter.{Letter}
-use Rattle.rules.specs.declared.Letter.TheVariants as letter
+use Rattle.rules.specs.Letters as letter
 use Rattle.rules.specs.declared.Device.{Device}
 use Rattle.rules.specs.declared.Yard.{Yard}
 use Rattle.rules.specs.Plan.{slot, LS, is_device}
@@ -40,24 +41,24 @@ place_back place.Exiting2 = refl
 pub same_place_lem : (a b : Place) → same_place a b ≡ true → a ≡ b
 same_place_lem a b e = sym (place_back a) ∙ ap place_of (eqb-true _ _ e) ∙ place_back b
 
-letter_of : ℕ → Letter
-letter_of zero = letter.None
+letter_of : ℕ → Option Letter
+letter_of zero = letter.none
 letter_of (suc zero) = letter.Request
 letter_of (suc (suc zero)) = letter.Cancel
 letter_of (suc (suc (suc zero))) = letter.Approve
 letter_of (suc (suc (suc (suc zero)))) = letter.Deny
 letter_of (suc (suc (suc (suc (suc n))))) = letter.Exit
 
-letter_back : (a : Letter) → letter_of (letter_number a) ≡ a
+letter_back : (a : Option Letter) → letter_of (letter_number a) ≡ a
 unfolding letter_of
-letter_back letter.None = refl
+letter_back letter.none = refl
 letter_back letter.Request = refl
 letter_back letter.Cancel = refl
 letter_back letter.Approve = refl
 letter_back letter.Deny = refl
 letter_back letter.Exit = refl
 
-pub same_letter_lem : (a b : Letter) → same_letter a b ≡ true → a ≡ b
+pub same_letter_lem : (a b : Option Letter) → same_letter a b ≡ true → a ≡ b
 same_letter_lem a b e = sym (letter_back a) ∙ ap letter_of (eqb-true _ _ e) ∙ letter_back b
 
 -- The supervisor's index and clocks.
@@ -119,8 +120,8 @@ Placed p i place.Exiting1 c = c < (slot p i).X
 Placed p i place.Exiting2 c = c < (slot p i).X
 
 -- A device's letter.
-abbrev pub Lettered : Plan → ℕ → Letter → Place → ℕ → Type 0
-Lettered p i letter.None pl c = Unit
+abbrev pub Lettered : Plan → ℕ → Option Letter → Place → ℕ → Type 0
+Lettered p i letter.none pl c = Unit
 Lettered p i letter.Request pl c = ⊥
 Lettered p i letter.Cancel pl c = ⊥
 Lettered p i letter.Approve pl c = (1 ≤ i) × (i < p.N) × (pl ≡ place.Entering) × (c ≡ 0)
@@ -146,9 +147,9 @@ module _ (p : Plan) (i : ℕ) where
   is_placed place.Exiting1 c h = lt-ltb _ _ h
   is_placed place.Exiting2 c h = lt-ltb _ _ h
 
-  pub lettered_is : (l : Letter) (pl : Place) (c : ℕ) → letter_formed p i l pl c ≡ true → Lettered p i l pl c
+  pub lettered_is : (l : Option Letter) (pl : Place) (c : ℕ) → letter_formed p i l pl c ≡ true → Lettered p i l pl c
   unfolding letter_formed
-  lettered_is letter.None pl c e = tt
+  lettered_is letter.none pl c e = tt
   lettered_is letter.Request pl c e = false≢true e
   lettered_is letter.Cancel pl c e = false≢true e
   lettered_is letter.Approve pl c e =
@@ -161,9 +162,9 @@ module _ (p : Plan) (i : ℕ) where
       (d.0, d.1, same_place_lem pl place.FallBack h.1.0, eqb-true _ _ h.1.1.0)
   lettered_is letter.Exit pl c e = false≢true e
 
-  pub is_lettered : (l : Letter) (pl : Place) (c : ℕ) → Lettered p i l pl c → letter_formed p i l pl c ≡ true
+  pub is_lettered : (l : Option Letter) (pl : Place) (c : ℕ) → Lettered p i l pl c → letter_formed p i l pl c ≡ true
   unfolding letter_formed
-  is_lettered letter.None pl c h = refl
+  is_lettered letter.none pl c h = refl
   is_lettered letter.Request pl c h = absurd h
   is_lettered letter.Cancel pl c h = absurd h
   is_lettered letter.Approve pl c h =
@@ -184,7 +185,7 @@ fresh_is d e =
     let h = all_hold _ e in
     let q : d.place ≡ place.FallBack = same_place_lem d.place place.FallBack h.0 in
     let c : d.clock ≡ 0 = eqb-true _ _ h.1.0 in
-    let l : d.letter ≡ letter.None = same_letter_lem d.letter letter.None h.1.1.0 in
+    let l : d.letter ≡ letter.none = same_letter_lem d.letter letter.none h.1.1.0 in
     λ j. record { place = q j; clock = c j; letter = l j }
 
 module _ (p : Plan) (y : Yard) where

@@ -9,7 +9,7 @@ use Rattle.rules.specs.declared.Plan.{Plan}
 use Rattle.rules.specs.declared.Yard.{Yard}
 use Rattle.rules.specs.declared.Record.{Record}
 use Rattle.rules.specs.declared.Device.{Device}
-use Rattle.rules.specs.declared.Letter.TheVariants as letter
+use Rattle.rules.specs.Letters as letter
 use Rattle.rules.specs.declared.BaseMove.{BaseMove}
 use Rattle.rules.specs.Plan.{terms}
 use Rattle.rules.specs.Yard.{at, device, fresh_device}
@@ -54,7 +54,7 @@ module _ (p : Plan) (y : Yard) (r : Record) where
         each_used p (moved_at p r) (step1 p y) risen refl i low high used
         ∙ ap (moved_at p r i) (each_used p (clocked p) y (step1 p y) refl i low high used)
 
-    pub tick_used : i ≤ p.N → device (tick p y r) i ≡ delivered p r turn.down i (at (up i).place (up i).clock letter.None)
+    pub tick_used : i ≤ p.N → device (tick p y r) i ≡ delivered p r turn.down i (at (up i).place (up i).clock letter.none)
     unfolding tick sent step1 step2 step3 step4
     tick_used used =
         each_used p (delivered p r turn.down) (sent p y r).yard (tick p y r) refl i low high used

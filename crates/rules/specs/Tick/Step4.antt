@@ -1,12 +1,12 @@
 -- Document 01, "One tick", step 4: the down letter, if not lost, arrives. A new place starts its clock at 0.
-use Rattle.std.specs.Prelude.{ℕ, Bool, cond, eqb}
+use Rattle.std.specs.Prelude.{ℕ, Bool, cond, eqb, Option}
 use Rattle.rules.specs.declared.Plan.{Plan}
 use Rattle.rules.specs.declared.Slot.{Slot}
 use Rattle.rules.specs.declared.Place.{Place}
 use Rattle.rules.specs.declared.Place.TheVariants as place
-use Rattle.rules.specs.declared.Letter.TheVariants as letter
+use Rattle.rules.specs.Letters as letter
 use Rattle.rules.specs.declared.Down.{Down}
-use Rattle.rules.specs.declared.Down.TheVariants as down
+use Rattle.rules.specs.Downs as down
 use Rattle.rules.specs.declared.Device.{Device}
 use Rattle.rules.specs.declared.Yard.{Yard}
 use Rattle.rules.specs.declared.Record.{Record}
@@ -48,15 +48,15 @@ hear_cancel place.Exiting1 d = d
 hear_cancel place.Exiting2 d = d
 
 -- A letter has arrived: only the device that it is for, its number i, heeds it.
-unfoldable pub arrived : Slot → Bool → Down → ℕ → Device → Device
-arrived s willing down.None i d = d
+unfoldable pub arrived : Slot → Bool → Option Down → ℕ → Device → Device
+arrived s willing down.none i d = d
 arrived s willing (down.LeaseReq k) i d = cond (eqb i k) (hear_lease_req s willing d.place d) d
 arrived s willing (down.Grant k) i d = cond (eqb i k) (hear_grant d.place d) d
 arrived s willing (down.Cancel k) i d = cond (eqb i k) (hear_cancel d.place d) d
 arrived s willing (down.Abort k) i d = cond (eqb i k) (hear_cancel d.place d) d
 
 -- Step 4 of device i. Lost, the letter changes nothing.
-abbrev pub delivered : Plan → Record → Down → ℕ → Device → Device
+abbrev pub delivered : Plan → Record → Option Down → ℕ → Device → Device
 delivered p r l i d = cond (down_lost r) d (arrived (slot p i) (willing r i) l i d)
 
 unfoldable pub step4 : Plan → Record → Sent → Yard

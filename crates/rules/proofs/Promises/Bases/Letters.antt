@@ -1,5 +1,6 @@
 -- A letter that goes up tells the truth of the device that wrote it: after Approve it has just entered, after Deny and Exit
 -- it is idle.
+use Rattle.std.specs.Prelude.{Option}
 use Prim.Native.Nat.{ℕ, ◌+◌, ◌≤◌, ◌<◌}
 use native.Mathlib.Omega.{arith}
 use lib.Dec.{eqb}
@@ -9,7 +10,7 @@ use Rattle.rules.specs.declared.Yard.{Yard}
 use Rattle.rules.specs.declared.Place.{Place}
 use Rattle.rules.specs.declared.Place.TheVariants as place
 use Rattle.rules.specs.declared.Letter.{Letter}
-use Rattle.rules.specs.declared.Letter.TheVariants as letter
+use Rattle.rules.specs.Letters as letter
 use Rattle.rules.specs.declared.Device.{Device}
 use Rattle.rules.specs.declared.Record.{Record}
 use Rattle.rules.specs.Plan.{slot}
@@ -25,8 +26,8 @@ use Rattle.rules.proofs.Promises.Stays.Stay.{Active, Idle, spent}
 use Rattle.rules.proofs.Promises.Stays.Moves.{on_heed}
 
 -- What a letter says: Approve says `Came`, Deny and Exit say `Gone`.
-abbrev pub Says : Type 0 → Type 0 → Letter → Type 0
-Says Came Gone letter.None = Unit
+abbrev pub Says : Type 0 → Type 0 → Option Letter → Type 0
+Says Came Gone letter.none = Unit
 Says Came Gone letter.Request = Unit
 Says Came Gone letter.Cancel = Unit
 Says Came Gone letter.Approve = Came
@@ -43,30 +44,30 @@ module _ (p : Plan) (a : Accepts p) (r : Record) (i : ℕ) where
   abbrev True : Device → Type 0
   True u = Says (Entered p i u.place u.clock) (Idle u.place) u.letter
 
-  abbrev risen_from : Place → ℕ → Letter → Device
+  abbrev risen_from : Place → ℕ → Option Letter → Device
   risen_from pl c l = moved_at p r i (clocked p i (at pl c l))
 
-  no_letter_lem : (pl : Place) (c : ℕ) → True (risen_from pl c letter.None)
+  no_letter_lem : (pl : Place) (c : ℕ) → True (risen_from pl c letter.none)
   unfolding moved
   no_letter_lem place.FallBack c =
       let c' : ℕ = stops_at (slot p i).F c in
-      on_heed p i r True (at place.FallBack c' letter.None) tt
+      on_heed p i r True (at place.FallBack c' letter.none) tt
       (on_cond True (eqb c' (slot p i).F) (λ e. tt) (λ e. tt)) (λ last c. tt)
   no_letter_lem place.Requesting c =
       on_cond True (eqb (c + 1) p.Q) (λ e. tt)
-      (λ e. on_heed p i r True (at place.Requesting (c + 1) letter.None) tt tt (λ last c. tt))
+      (λ e. on_heed p i r True (at place.Requesting (c + 1) letter.none) tt tt (λ last c. tt))
   no_letter_lem place.Entering c =
       on_cond True (eqb (c + 1) (slot p i).E) (λ e. tt)
-      (λ e. on_heed p i r True (at place.Entering (c + 1) letter.None) tt tt (λ last c. tt))
+      (λ e. on_heed p i r True (at place.Entering (c + 1) letter.none) tt tt (λ last c. tt))
   no_letter_lem place.Running c =
       on_cond True (eqb (c + 1) (slot p i).R) (λ e. tt)
-      (λ e. on_heed p i r True (at place.Running (c + 1) letter.None) tt tt (λ last c. tt))
+      (λ e. on_heed p i r True (at place.Running (c + 1) letter.none) tt tt (λ last c. tt))
   no_letter_lem place.Exiting1 c =
       on_cond True (eqb (c + 1) (slot p i).X) (λ e q. q)
-      (λ e. on_heed p i r True (at place.Exiting1 (c + 1) letter.None) tt tt (λ last c. tt))
+      (λ e. on_heed p i r True (at place.Exiting1 (c + 1) letter.none) tt tt (λ last c. tt))
   no_letter_lem place.Exiting2 c =
       on_cond True (eqb (c + 1) (slot p i).X) (λ e q. q)
-      (λ e. on_heed p i r True (at place.Exiting2 (c + 1) letter.None) tt tt (λ last c. tt))
+      (λ e. on_heed p i r True (at place.Exiting2 (c + 1) letter.none) tt tt (λ last c. tt))
 
   approve : i < p.N → True (risen_from place.Entering 0 letter.Approve)
   unfolding moved
@@ -84,8 +85,8 @@ module _ (p : Plan) (a : Accepts p) (r : Record) (i : ℕ) where
       on_heed p i r True (at place.FallBack c' letter.Deny) (λ q. q)
       (on_cond True (eqb c' (slot p i).F) (λ e. tt) (λ e q. q)) (λ last c. absurd (omega arith))
 
-  letter_true : (l : Letter) (pl : Place) (c : ℕ) → Lettered p i l pl c → True (risen_from pl c l)
-  letter_true letter.None pl c h = no_letter_lem pl c
+  letter_true : (l : Option Letter) (pl : Place) (c : ℕ) → Lettered p i l pl c → True (risen_from pl c l)
+  letter_true letter.none pl c h = no_letter_lem pl c
   letter_true letter.Request pl c h = absurd h
   letter_true letter.Cancel pl c h = absurd h
   letter_true letter.Approve pl c h = rw (h.2, h.3) (approve h.1)

@@ -1,5 +1,6 @@
 -- What the base does in a tick, in terms of stays: it rests, opens a lease, goes on to the next device, holds, goes back
 -- from a device that is out, or the lease expires. It calls off no device but that of its new place.
+use Rattle.std.specs.Prelude.{Option}
 use Prim.Native.Nat.{ℕ, ◌+◌, ◌-◌, ◌*◌, ◌≤◌, ◌<◌}
 use native.Mathlib.Omega.{arith}
 use mathlib.Core.Path.{◌≡◌, refl, subst}
@@ -11,7 +12,7 @@ use Rattle.rules.specs.declared.Plan.{Plan}
 use Rattle.rules.specs.declared.Base.{Base}
 use Rattle.rules.specs.declared.Base.TheVariants as base
 use Rattle.rules.specs.declared.Letter.{Letter}
-use Rattle.rules.specs.declared.Letter.TheVariants as letter
+use Rattle.rules.specs.Letters as letter
 use Rattle.rules.specs.declared.Down.{Down}
 use Rattle.rules.specs.declared.BaseMove.{BaseMove}
 use Rattle.rules.specs.Plan.{LS, terms}
@@ -113,15 +114,15 @@ module _ (p : Plan) (a : Accepts p) (Came Gone : Type 0) where
         let last : Bool = eqb (k + 1) p.N in
         record {
           kind =
-              goes_on entered low refl (on_cond (λ (d : Down). asked d ≡ k + 1) last (λ e. refl) (λ e. refl)) refl
+              goes_on entered low refl (on_cond (λ (d : Option Down). asked d ≡ k + 1) last (λ e. refl) (λ e. refl)) refl
               (omega arith);
           calls =
-              on_cond (λ (d : Down). 1 ≤ called_off d → called_off d ≡ k + 1) last (λ e q. absurd (omega arith))
+              on_cond (λ (d : Option Down). 1 ≤ called_off d → called_off d ≡ k + 1) last (λ e q. absurd (omega arith))
               (λ e q. absurd (omega arith));
           prompt = λ few. omega arith;
         }
 
-  module _ (approved : Bool) (last own : Letter) where
+  module _ (approved : Bool) (last own : Option Letter) where
     in_fall_back_lem : (c l : ℕ) → At 0 l (in_fall_back (terms p) approved last c l)
     unfolding in_fall_back
     in_fall_back_lem c l =

@@ -7,8 +7,8 @@ use Rattle.rules.specs.declared.Yard.{Yard}
 use Rattle.rules.specs.declared.Record.{Record}
 use Rattle.rules.specs.declared.Base.TheVariants as base
 use Rattle.rules.specs.declared.Place.TheVariants as place
-use Rattle.rules.specs.declared.Letter.TheVariants as letter
-use Rattle.rules.specs.declared.Down.TheVariants as down
+use Rattle.rules.specs.Letters as letter
+use Rattle.rules.specs.Downs as down
 use Rattle.rules.specs.declared.Device.{Device}
 use Rattle.rules.specs.Plan.{terms}
 use Rattle.rules.specs.Yard.{device}

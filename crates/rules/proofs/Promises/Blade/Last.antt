@@ -9,7 +9,7 @@ use Rattle.rules.specs.declared.Base.TheVariants as base
 use Rattle.rules.specs.declared.BaseMove.{BaseMove}
 use Rattle.rules.specs.declared.Place.{Place}
 use Rattle.rules.specs.declared.Place.TheVariants as place
-use Rattle.rules.specs.declared.Letter.TheVariants as letter
+use Rattle.rules.specs.Letters as letter
 use Rattle.rules.specs.declared.Device.{Device}
 use Rattle.rules.specs.Plan.{slot, terms}
 use Rattle.rules.specs.Yard.{device}
@@ -43,8 +43,8 @@ module _ (p : Plan) (a : Accepts p) (y : Yard) (r : Record) (f : Formed p y) (u 
   lease_clock_lem : lease_clock y.base y.lease ≡ n + c
   lease_clock_lem = lease_runs y.base y.lease (rw s.base first) ∙ s.lease
 
-  module _ (time : c + 1 ≤ (slot p p.N).E) (quiet : (up p y r p.N).letter ≡ letter.None) where
-    own : heard r (risen p y r) (base_index y.base) ≡ letter.None
+  module _ (time : c + 1 ≤ (slot p p.N).E) (quiet : (up p y r p.N).letter ≡ letter.none) where
+    own : heard r (risen p y r) (base_index y.base) ≡ letter.none
     own =
         ap (λ (k : ℕ). heard r (risen p y r) k) (ap base_index s.base)
         ∙ all_heard p a y r u n first (omega arith)

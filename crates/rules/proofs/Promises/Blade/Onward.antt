@@ -9,8 +9,8 @@ use Rattle.rules.specs.declared.Yard.{Yard}
 use Rattle.rules.specs.declared.Record.{Record}
 use Rattle.rules.specs.declared.BaseMove.{BaseMove}
 use Rattle.rules.specs.declared.Place.TheVariants as place
-use Rattle.rules.specs.declared.Letter.TheVariants as letter
-use Rattle.rules.specs.declared.Down.TheVariants as down
+use Rattle.rules.specs.Letters as letter
+use Rattle.rules.specs.Downs as down
 use Rattle.rules.specs.declared.Device.{Device}
 use Rattle.rules.specs.Plan.{terms}
 use Rattle.rules.specs.Yard.{device}
@@ -41,7 +41,7 @@ module _ (p : Plan) (a : Accepts p) (y : Yard) (r : Record) (f : Formed p y) (u 
   lease_clock_lem = lease_runs y.base y.lease (rw s.base low) ∙ s.lease
 
   -- The initializer waits on, since Q is longer than one tick a device.
-  waiting : Stands (up p y r p.N) place.Requesting ((device y p.N).clock + 1) × ((up p y r p.N).letter ≡ letter.None)
+  waiting : Stands (up p y r p.N) place.Requesting ((device y p.N).clock + 1) × ((up p y r p.N).letter ≡ letter.none)
   waiting =
       let d : Device = device y p.N in
       let w =

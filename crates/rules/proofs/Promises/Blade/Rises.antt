@@ -1,5 +1,6 @@
 -- Steps 1 and 2 of the devices on the way to the blade: one that rests goes on resting, one that has approved still says so,
 -- and the initializer requests, waits, enters and runs.
+use Rattle.std.specs.Prelude.{Option}
 use Prim.Native.Nat.{ℕ, ◌+◌, ◌<◌}
 use native.Mathlib.Omega.{arith}
 use mathlib.Core.Path.{◌≡◌, refl}
@@ -10,7 +11,7 @@ use Rattle.rules.specs.declared.Plan.{Plan}
 use Rattle.rules.specs.declared.Place.{Place}
 use Rattle.rules.specs.declared.Place.TheVariants as place
 use Rattle.rules.specs.declared.Letter.{Letter}
-use Rattle.rules.specs.declared.Letter.TheVariants as letter
+use Rattle.rules.specs.Letters as letter
 use Rattle.rules.specs.declared.Device.{Device}
 use Rattle.rules.specs.declared.Record.{Record}
 use Rattle.rules.specs.Plan.{slot}
@@ -30,7 +31,7 @@ pub record Rests (p : Plan) (i : ℕ) (d : Device) : Type 0 where
   pub place : d.place ≡ place.FallBack
   pub clock : device_clock (slot p i) d.place d.clock ≡ (slot p i).F
 
-module _ (p : Plan) (r : Record) (i : ℕ) (pl : Place) (c : ℕ) (l : Letter) where
+module _ (p : Plan) (r : Record) (i : ℕ) (pl : Place) (c : ℕ) (l : Option Letter) where
   abbrev risen : Device
   risen = moved_at p r i (clocked p i (at pl c l))
 

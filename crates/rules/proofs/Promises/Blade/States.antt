@@ -1,4 +1,5 @@
 -- The yard on the way to the blade: the lease has come to device i; the initializer has been granted and enters.
+use Rattle.std.specs.Prelude.{Option}
 use Prim.Native.Nat.{ℕ, ◌+◌, ◌-◌, ◌*◌, ◌≤◌, ◌<◌}
 use native.Mathlib.Omega.{arith}
 use native.Mathlib.Nat.{mul-le-mul_left}
@@ -12,9 +13,9 @@ use Rattle.rules.specs.declared.Base.TheVariants as base
 use Rattle.rules.specs.declared.Place.{Place}
 use Rattle.rules.specs.declared.Place.TheVariants as place
 use Rattle.rules.specs.declared.Letter.{Letter}
-use Rattle.rules.specs.declared.Letter.TheVariants as letter
+use Rattle.rules.specs.Letters as letter
 use Rattle.rules.specs.declared.Down.{Down}
-use Rattle.rules.specs.declared.Down.TheVariants as down
+use Rattle.rules.specs.Downs as down
 use Rattle.rules.specs.declared.Device.{Device}
 use Rattle.rules.specs.Plan.{slot, stay, LS}
 use Rattle.rules.specs.Yard.{at, device}
@@ -51,13 +52,13 @@ module _ (p : Plan) (a : Accepts p) where
   stay_fits = omega (arith, several, a.c4 p.N (omega (arith, a.devices)) (omega arith))
 
 -- Between ticks the initializer holds no letter.
-pub silent : (p : Plan) (y : Yard) → Accepts p → Formed p y → (device y p.N).letter ≡ letter.None
+pub silent : (p : Plan) (y : Yard) → Accepts p → Formed p y → (device y p.N).letter ≡ letter.none
 silent p y a f =
     none (device y p.N).letter (device y p.N).place (device y p.N).clock
     (f.lettered p.N (omega (arith, a.devices)) (omega (arith, a.devices)) (omega arith))
   where
-    none : (l : Letter) (pl : Place) (c : ℕ) → Lettered p p.N l pl c → l ≡ letter.None
-    none letter.None pl c h = refl
+    none : (l : Option Letter) (pl : Place) (c : ℕ) → Lettered p p.N l pl c → l ≡ letter.none
+    none letter.none pl c h = refl
     none letter.Request pl c h = absurd h
     none letter.Cancel pl c h = absurd h
     none letter.Approve pl c h = absurd (omega (arith, h.1))
@@ -71,9 +72,9 @@ rests_on p i d h =
     record { place = h.place; clock = rw (h.place, h.clock, le-ltb f f (omega arith)) }
 
 -- A willing device that has rested is asked, and enters; the initializer that waits is granted, and enters.
-module _ (s : Slot) (w : Bool) (i : ℕ) (l : Down) (pl : Place) (c : ℕ) where
+module _ (s : Slot) (w : Bool) (i : ℕ) (l : Option Down) (pl : Place) (c : ℕ) where
   abbrev end : Device
-  end = arrived s w l i (at pl c letter.None)
+  end = arrived s w l i (at pl c letter.none)
 
   pub asked_enters :
       l ≡ down.LeaseReq i → w ≡ true → pl ≡ place.FallBack → c ≡ s.F

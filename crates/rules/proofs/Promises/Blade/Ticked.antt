@@ -10,8 +10,8 @@ use Rattle.rules.specs.declared.Base.TheVariants as base
 use Rattle.rules.specs.declared.BaseMove.{BaseMove}
 use Rattle.rules.specs.declared.Place.{Place}
 use Rattle.rules.specs.declared.Place.TheVariants as place
-use Rattle.rules.specs.declared.Letter.TheVariants as letter
-use Rattle.rules.specs.declared.Down.TheVariants as down
+use Rattle.rules.specs.Letters as letter
+use Rattle.rules.specs.Downs as down
 use Rattle.rules.specs.declared.Device.{Device}
 use Rattle.rules.specs.Plan.{slot}
 use Rattle.rules.specs.Yard.{device}

@@ -1,4 +1,5 @@
 -- Step 4, as a stay sees it: the down letter leaves a device as it is, is denied by an idle one, starts a stay or halts it.
+use Rattle.std.specs.Prelude.{Option}
 use Prim.Native.Nat.{ℕ, ◌+◌, ◌<◌}
 use native.Mathlib.Omega.{arith}
 use mathlib.Core.Path.{◌≡◌, refl}
@@ -11,9 +12,9 @@ use Rattle.rules.specs.declared.Slot.{Slot}
 use Rattle.rules.specs.declared.Place.{Place}
 use Rattle.rules.specs.declared.Place.TheVariants as place
 use Rattle.rules.specs.declared.Letter.{Letter}
-use Rattle.rules.specs.declared.Letter.TheVariants as letter
+use Rattle.rules.specs.Letters as letter
 use Rattle.rules.specs.declared.Down.{Down}
-use Rattle.rules.specs.declared.Down.TheVariants as down
+use Rattle.rules.specs.Downs as down
 use Rattle.rules.specs.declared.Device.{Device}
 use Rattle.rules.specs.declared.Record.{Record}
 use Rattle.rules.specs.Plan.{slot}
@@ -25,15 +26,15 @@ use Rattle.rules.proofs.Promises.Stays.Stay.{Idle, spent}
 use Rattle.rules.proofs.Promises.Stays.Moves.{Stays}
 
 -- The device that a down letter asks to start, and the one whose stay it calls off; 0 is nobody.
-abbrev pub asked : Down → ℕ
-asked down.None = 0
+abbrev pub asked : Option Down → ℕ
+asked down.none = 0
 asked (down.LeaseReq k) = k
 asked (down.Grant k) = k
 asked (down.Cancel k) = 0
 asked (down.Abort k) = 0
 
-abbrev pub called_off : Down → ℕ
-called_off down.None = 0
+abbrev pub called_off : Option Down → ℕ
+called_off down.none = 0
 called_off (down.LeaseReq k) = 0
 called_off (down.Grant k) = 0
 called_off (down.Cancel k) = k
@@ -57,14 +58,14 @@ pub data Hears (s : Slot) (Asked Off : Type 0) (u e : Device) : Type 0 where
       Off → Stays s 0 u e → spent s u.place u.clock < s.E + s.R → spent s e.place e.clock ≡ s.E + s.R
       → Hears s Asked Off u e
 
-module _ (p : Plan) (i : ℕ) (x : Letter) where
+module _ (p : Plan) (i : ℕ) (x : Option Letter) where
   -- What device i makes of down letter l; its own letter x has gone up.
-  abbrev Heard : Down → Place → ℕ → Device → Type 0
+  abbrev Heard : Option Down → Place → ℕ → Device → Type 0
   Heard l pl c e = Hears (slot p i) (asked l ≡ i) (called_off l ≡ i) (at pl c x) e
 
   hears_lease :
-      (l : Down) → asked l ≡ i → (w : Bool) (pl : Place) (c : ℕ)
-      → Heard l pl c (hear_lease_req (slot p i) w pl (at pl c letter.None))
+      (l : Option Down) → asked l ≡ i → (w : Bool) (pl : Place) (c : ℕ)
+      → Heard l pl c (hear_lease_req (slot p i) w pl (at pl c letter.none))
   hears_lease l here w place.FallBack c =
       on_cond (Heard l place.FallBack c) (eqb c (slot p i).F)
       (λ e. on_cond (Heard l place.FallBack c) w (λ q. starts here (eqb-true _ _ e) refl refl) (λ q. denies here refl refl refl))
@@ -75,7 +76,7 @@ module _ (p : Plan) (i : ℕ) (x : Letter) where
   hears_lease l here w place.Exiting1 c = same refl refl
   hears_lease l here w place.Exiting2 c = same refl refl
 
-  hears_grant : (l : Down) → asked l ≡ i → (pl : Place) (c : ℕ) → Heard l pl c (hear_grant pl (at pl c letter.None))
+  hears_grant : (l : Option Down) → asked l ≡ i → (pl : Place) (c : ℕ) → Heard l pl c (hear_grant pl (at pl c letter.none))
   hears_grant l here place.FallBack c = same refl refl
   hears_grant l here place.Requesting c = starts here tt refl refl
   hears_grant l here place.Entering c = same refl refl
@@ -84,7 +85,7 @@ module _ (p : Plan) (i : ℕ) (x : Letter) where
   hears_grant l here place.Exiting2 c = same refl refl
 
   hears_cancel :
-      (l : Down) → called_off l ≡ i → (pl : Place) (c : ℕ) → Placed p i pl c → Heard l pl c (hear_cancel pl (at pl c letter.None))
+      (l : Option Down) → called_off l ≡ i → (pl : Place) (c : ℕ) → Placed p i pl c → Heard l pl c (hear_cancel pl (at pl c letter.none))
   unfolding engaged
   hears_cancel l here place.FallBack c h = same refl refl
   hears_cancel l here place.Requesting c h = same refl refl
@@ -96,10 +97,10 @@ module _ (p : Plan) (i : ℕ) (x : Letter) where
   hears_cancel l here place.Exiting2 c h = same refl refl
 
   hears :
-      (w : Bool) (l : Down) (pl : Place) (c : ℕ) → Placed p i pl c
-      → Heard l pl c (arrived (slot p i) w l i (at pl c letter.None))
+      (w : Bool) (l : Option Down) (pl : Place) (c : ℕ) → Placed p i pl c
+      → Heard l pl c (arrived (slot p i) w l i (at pl c letter.none))
   unfolding arrived
-  hears w down.None pl c h = same refl refl
+  hears w down.none pl c h = same refl refl
   hears w (down.LeaseReq k) pl c h =
       on_cond (Heard (down.LeaseReq k) pl c) (eqb i k) (λ e. hears_lease (down.LeaseReq k) (omega tests) w pl c)
       (λ e. same refl refl)
@@ -114,8 +115,8 @@ module _ (p : Plan) (i : ℕ) (x : Letter) where
       (λ e. same refl refl)
 
 pub hears_down :
-    (p : Plan) (i : ℕ) (r : Record) (l : Down) (u : Device) → Placed p i u.place u.clock
-    → Hears (slot p i) (asked l ≡ i) (called_off l ≡ i) u (delivered p r l i (at u.place u.clock letter.None))
+    (p : Plan) (i : ℕ) (r : Record) (l : Option Down) (u : Device) → Placed p i u.place u.clock
+    → Hears (slot p i) (asked l ≡ i) (called_off l ≡ i) u (delivered p r l i (at u.place u.clock letter.none))
 hears_down p i r l u h =
     on_cond (Heard p i u.letter l u.place u.clock) (down_lost r) (λ e. same refl refl)
     (λ e. hears p i u.letter (willing r i) l u.place u.clock h)

@@ -1,5 +1,6 @@
 -- One tick of a device, as its stay sees it: it rests, starts, goes on, is halted or ends. Steps 1 and 2 never start a
 -- stay, and halt one only at the initializer.
+use Rattle.std.specs.Prelude.{Option}
 use Prim.Native.Nat.{ℕ, ◌+◌, ◌≤◌, ◌<◌}
 use native.Mathlib.Omega.{arith}
 use mathlib.Core.Path.{◌≡◌, refl}
@@ -64,11 +65,11 @@ module _ (p : Plan) (i : ℕ) (r : Record) where
       (λ e. still)
 
   -- Where a device goes in steps 1 and 2.
-  abbrev Onward : Place → ℕ → Letter → Device → Type 0
+  abbrev Onward : Place → ℕ → Option Letter → Device → Type 0
   Onward pl c l e = Step (slot p i) ⊥ (i ≡ p.N) (at pl c l) e
 
   moves_on :
-      (pl : Place) (c : ℕ) (l : Letter) → Placed p i pl c → Onward pl c l (moved_at p r i (clocked p i (at pl c l)))
+      (pl : Place) (c : ℕ) (l : Option Letter) → Placed p i pl c → Onward pl c l (moved_at p r i (clocked p i (at pl c l)))
   unfolding moved engaged
   moves_on place.FallBack c l h =
       let c' : ℕ = stops_at (slot p i).F c in

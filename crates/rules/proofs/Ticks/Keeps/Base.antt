@@ -1,4 +1,5 @@
 -- Steps 1 and 3 keep the supervisor well formed, under an accepted plan.
+use Rattle.std.specs.Prelude.{Option}
 use Prim.Native.Nat.{ℕ, ◌+◌, ◌-◌, ◌≤◌, ◌<◌}
 use native.Mathlib.Omega.{arith}
 use mathlib.Core.Path.{◌≡◌, refl}
@@ -10,7 +11,7 @@ use Rattle.rules.specs.declared.Plan.{Plan}
 use Rattle.rules.specs.declared.Base.{Base}
 use Rattle.rules.specs.declared.Base.TheVariants as base
 use Rattle.rules.specs.declared.Letter.{Letter}
-use Rattle.rules.specs.declared.Letter.TheVariants as letter
+use Rattle.rules.specs.Letters as letter
 use Rattle.rules.specs.declared.BaseMove.{BaseMove}
 use Rattle.rules.specs.Plan.{slot, LS, terms}
 use Rattle.rules.specs.Yard.{same_letter}
@@ -76,7 +77,7 @@ module _ (p : Plan) (a : Accepts p) where
     on_cond (ForParticipant p) (eqb (i + 1) p.N) (λ e. tt) (λ e. omega tests),
   )
 
-  module _ (approved : Bool) (last own : Letter) where
+  module _ (approved : Bool) (last own : Option Letter) where
     fall_back_sound : (c l : ℕ) → Clocked base.FallBack c l → Sound (in_fall_back (terms p) approved last c l)
     unfolding in_fall_back
     fall_back_sound c l h =

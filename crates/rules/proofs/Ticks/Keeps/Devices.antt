@@ -1,4 +1,5 @@
 -- Steps 1, 2 and 4 keep a device well formed, under an accepted plan.
+use Rattle.std.specs.Prelude.{Option}
 use Prim.Native.Nat.{ℕ, ◌≤◌, ◌<◌}
 use native.Mathlib.Omega.{arith}
 use mathlib.Core.Path.{◌≡◌, refl}
@@ -10,9 +11,9 @@ use Rattle.rules.specs.declared.Plan.{Plan}
 use Rattle.rules.specs.declared.Place.{Place}
 use Rattle.rules.specs.declared.Place.TheVariants as place
 use Rattle.rules.specs.declared.Letter.{Letter}
-use Rattle.rules.specs.declared.Letter.TheVariants as letter
+use Rattle.rules.specs.Letters as letter
 use Rattle.rules.specs.declared.Down.{Down}
-use Rattle.rules.specs.declared.Down.TheVariants as down
+use Rattle.rules.specs.Downs as down
 use Rattle.rules.specs.declared.Device.{Device}
 use Rattle.rules.specs.declared.Record.{Record}
 use Rattle.rules.specs.Plan.{slot}
@@ -29,8 +30,8 @@ pub stopped : (limit c : ℕ) → c ≤ limit → stops_at limit c ≤ limit
 stopped limit c h = on_cond (λ (x : ℕ). x ≤ limit) (ltb c limit) (λ q. omega tests) (λ q. h)
 
 -- Only a participant is sent a LeaseReq.
-abbrev pub ForParticipant : Plan → Down → Type 0
-ForParticipant p down.None = Unit
+abbrev pub ForParticipant : Plan → Option Down → Type 0
+ForParticipant p down.none = Unit
 ForParticipant p (down.LeaseReq k) = k < p.N
 ForParticipant p (down.Grant k) = Unit
 ForParticipant p (down.Cancel k) = Unit
@@ -58,7 +59,7 @@ module _ (p : Plan) (a : Accepts p) where
     clock_kept place.Exiting1 c h = omega arith
     clock_kept place.Exiting2 c h = omega arith
 
-    due_placed : (pl : Place) (c : ℕ) (l : Letter) → due p.Q (slot p i) pl c ≡ true → PlacedAt (due_move pl (at pl c l))
+    due_placed : (pl : Place) (c : ℕ) (l : Option Letter) → due p.Q (slot p i) pl c ≡ true → PlacedAt (due_move pl (at pl c l))
     due_placed place.FallBack c l e = clash e refl
     due_placed place.Requesting c l e = omega arith
     due_placed place.Entering c l e = (a.device_times i low used).2.low
@@ -75,7 +76,7 @@ module _ (p : Plan) (a : Accepts p) where
     still_placed place.Exiting2 c h e = omega tests
 
     request_placed :
-        i ≡ p.N → (pl : Place) (c : ℕ) (l : Letter) → Placed p i pl c → PlacedAt (heed_request (slot p i) pl (at pl c l))
+        i ≡ p.N → (pl : Place) (c : ℕ) (l : Option Letter) → Placed p i pl c → PlacedAt (heed_request (slot p i) pl (at pl c l))
     request_placed last place.FallBack c l h =
         on_cond PlacedAt (eqb c (slot p i).F) (λ q. (last, a.yard_times.2.low)) (λ q. h)
     request_placed last place.Requesting c l h = h
@@ -84,7 +85,7 @@ module _ (p : Plan) (a : Accepts p) where
     request_placed last place.Exiting1 c l h = h
     request_placed last place.Exiting2 c l h = h
 
-    cancel_placed : (pl : Place) (c : ℕ) (l : Letter) → Placed p i pl c → PlacedAt (heed_cancel pl (at pl c l))
+    cancel_placed : (pl : Place) (c : ℕ) (l : Option Letter) → Placed p i pl c → PlacedAt (heed_cancel pl (at pl c l))
     cancel_placed place.FallBack c l h = h
     cancel_placed place.Requesting c l h = omega arith
     cancel_placed place.Entering c l h = (a.device_times i low used).3.low
@@ -117,7 +118,7 @@ module _ (p : Plan) (a : Accepts p) where
     Good d = Placed p i d.place d.clock × Lettered p i d.letter d.place d.clock
 
     lease_good :
-        i < p.N → (w : Bool) (pl : Place) (c : ℕ) → Placed p i pl c → Good (hear_lease_req (slot p i) w pl (at pl c letter.None))
+        i < p.N → (w : Bool) (pl : Place) (c : ℕ) → Placed p i pl c → Good (hear_lease_req (slot p i) w pl (at pl c letter.none))
     lease_good below w place.FallBack c h =
         on_cond Good (eqb c (slot p i).F)
         (λ q.
@@ -130,7 +131,7 @@ module _ (p : Plan) (a : Accepts p) where
     lease_good below w place.Exiting1 c h = (h, tt)
     lease_good below w place.Exiting2 c h = (h, tt)
 
-    grant_good : (pl : Place) (c : ℕ) → Placed p i pl c → Good (hear_grant pl (at pl c letter.None))
+    grant_good : (pl : Place) (c : ℕ) → Placed p i pl c → Good (hear_grant pl (at pl c letter.none))
     grant_good place.FallBack c h = (h, tt)
     grant_good place.Requesting c h = ((a.device_times i low used).1.low, tt)
     grant_good place.Entering c h = (h, tt)
@@ -138,7 +139,7 @@ module _ (p : Plan) (a : Accepts p) where
     grant_good place.Exiting1 c h = (h, tt)
     grant_good place.Exiting2 c h = (h, tt)
 
-    called_off_good : (pl : Place) (c : ℕ) → Placed p i pl c → Good (hear_cancel pl (at pl c letter.None))
+    called_off_good : (pl : Place) (c : ℕ) → Placed p i pl c → Good (hear_cancel pl (at pl c letter.none))
     called_off_good place.FallBack c h = (h, tt)
     called_off_good place.Requesting c h = (h, tt)
     called_off_good place.Entering c h = ((a.device_times i low used).3.low, tt)
@@ -147,10 +148,10 @@ module _ (p : Plan) (a : Accepts p) where
     called_off_good place.Exiting2 c h = (h, tt)
 
     arrived_good :
-        (w : Bool) (l : Down) (pl : Place) (c : ℕ) → ForParticipant p l → Placed p i pl c
-        → Good (arrived (slot p i) w l i (at pl c letter.None))
+        (w : Bool) (l : Option Down) (pl : Place) (c : ℕ) → ForParticipant p l → Placed p i pl c
+        → Good (arrived (slot p i) w l i (at pl c letter.none))
     unfolding arrived
-    arrived_good w down.None pl c f h = (h, tt)
+    arrived_good w down.none pl c f h = (h, tt)
     arrived_good w (down.LeaseReq k) pl c f h =
         on_cond Good (eqb i k) (λ e. lease_good (omega tests) w pl c h) (λ e. (h, tt))
     arrived_good w (down.Grant k) pl c f h = on_cond Good (eqb i k) (λ e. grant_good pl c h) (λ e. (h, tt))
@@ -158,6 +159,6 @@ module _ (p : Plan) (a : Accepts p) where
     arrived_good w (down.Abort k) pl c f h = on_cond Good (eqb i k) (λ e. called_off_good pl c h) (λ e. (h, tt))
 
     pub delivered_good :
-        (r : Record) (l : Down) (pl : Place) (c : ℕ) → ForParticipant p l → Placed p i pl c
-        → Good (delivered p r l i (at pl c letter.None))
+        (r : Record) (l : Option Down) (pl : Place) (c : ℕ) → ForParticipant p l → Placed p i pl c
+        → Good (delivered p r l i (at pl c letter.none))
     delivered_good r l pl c f h = on_cond Good (down_lost r) (λ e. (h, tt)) (λ e. arrived_good (willing r i) l pl c f h)

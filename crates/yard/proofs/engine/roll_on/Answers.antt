@@ -1,3 +1,4 @@
+use Rattle.std.specs.Prelude.{Option}
 use Prim.Native.Nat.{ℕ, ◌+◌, ◌-◌, ◌≤◌, ◌<◌}
 use native.Mathlib.Omega.{arith}
 use mathlib.Core.Path.{◌≡◌, sym, ◌∙◌, ap}
@@ -131,8 +132,8 @@ loop-k-preserved c =
     let y : Yard = yard_of c.loop-k.supervisor c.loop-k.devices in
     let o : Pass = pass_of p r last own c.loop-k.devices in
     let left : List Device = c.match-pace-2.devices in
-    let from_last : Letter = c.match-pace-2.from_last in
-    let from_own : Letter = c.match-pace-2.from_own in
+    let from_last : Option Letter = c.match-pace-2.from_last in
+    let from_own : Option Letter = c.match-pace-2.from_own in
     let byte : ℕ = c.match-pace-2.byte in
     let m : BaseMove = c.supervise-supervisor.result in
     let to : ℕ = c.reached-to.result in
