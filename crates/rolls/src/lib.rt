@@ -30,90 +30,62 @@ pub fn left_over(roll: &[u8]) -> usize
 pub fn ticks_to_do(roll: &[u8], budget: usize) -> usize
     ensures { result ≡ ticks_to_do roll.now budget }
 {
-    let count = records(roll);
-    if budget < count {
-        return budget;
-    }
-    count
+    budget.min(records(roll))
 }
 
 // Where record k starts, counted from 0; from the last on, where that one ends.
 pub fn record_start(roll: &[u8], k: usize) -> usize
     ensures { result ≡ record_start (min k (records roll.now)) }
 {
-    let count = records(roll);
-    if k < count {
-        return RECORD_SIZE * k;
-    }
-    RECORD_SIZE * count
-}
-
-// What stands behind the last whole record: the bytes left over, and then zeros.
-fn record_left_over(roll: &[u8]) -> Record
-    ensures { result ≡ record_at roll.now (records roll.now) }
-{
-    let at = RECORD_SIZE * records(roll);
-    Record {
-        command: byte_at(roll, at),
-        flags: byte_at(roll, at + 1),
-        willing: byte_at(roll, at + 2),
-        lost: byte_at(roll, at + 3),
-    }
+    RECORD_SIZE * k.min(records(roll))
 }
 
 // The record at k, counted from 0; beyond the roll's end all are zero.
 pub fn record_at(roll: &[u8], k: usize) -> Record
     ensures { result ≡ record_at roll.now k }
 {
-    let count = records(roll);
-    if k < count {
-        let at = RECORD_SIZE * k;
+    if k > records(roll) {
         return Record {
-            command: roll[at],
-            flags: roll[at + 1],
-            willing: roll[at + 2],
-            lost: roll[at + 3],
+            command: 0,
+            flags: 0,
+            willing: 0,
+            lost: 0,
         };
     }
-    if k == count {
-        return record_left_over(roll);
+    match &roll[RECORD_SIZE * k..] {
+        [command, flags, willing, lost, ..] => Record {
+            command: *command,
+            flags: *flags,
+            willing: *willing,
+            lost: *lost,
+        },
+        rest => Record {
+            command: byte_at(rest, 0),
+            flags: byte_at(rest, 1),
+            willing: byte_at(rest, 2),
+            lost: 0,
+        },
     }
-    Record {
-        command: 0,
-        flags: 0,
-        willing: 0,
-        lost: 0,
-    }
-}
-
-// The difference, 0 where there is none.
-fn less(a: u16, b: u16) -> u16
-    ensures { result ≡ a - b }
-{
-    if a < b {
-        return 0;
-    }
-    a - b
 }
 
 // The bytes whose bits k and up are zero are those below this: all of them from k = 8 on.
 fn bound(k: u16) -> u16
     ensures { Bound k result }
 {
-    256 >> less(8, k)
+    1 << k.min(8)
 }
 
 // Whether a record is valid, by the bounds of its last two bytes, which depend on the plan alone.
 fn within(willing: u16, lost: u16, r: Record) -> bool
     ensures { (p : Plan) → Bound (p.N - 1) willing → Bound p.N lost → result ≡ valid_record p r }
 {
-    (r.command <= 2) & (r.flags < 4) & ((r.willing as u16) < willing) & ((r.lost as u16) < lost)
+    (r.command <= 2) & (r.flags < 4) & (u16::from(r.willing) < willing) & (u16::from(r.lost) < lost)
 }
 
 pub fn valid_record(p: Plan, r: Record) -> bool
     ensures { result ≡ valid_record p r }
 {
-    within(bound(less(p.N, 1)), bound(p.N), r)
+    within(bound(p.N.saturating_sub(1)), bound(p.N), r)
 }
 
 // The first record of a roll that this plan's yard does not take, counted from 0; the number of its records where it takes
@@ -121,15 +93,13 @@ pub fn valid_record(p: Plan, r: Record) -> bool
 pub fn first_bad(p: Plan, roll: &[u8]) -> usize
     ensures { result ≡ first_bad p roll.now }
 {
-    let willing = bound(less(p.N, 1));
+    let willing = bound(p.N.saturating_sub(1));
     let lost = bound(p.N);
     let count = records(roll);
-    let mut k: usize = 0;
-    while k < count {
+    for k in 0..count {
         if !within(willing, lost, record_at(roll, k)) {
             return k;
         }
-        k += 1;
     }
     count
 }

@@ -2,5 +2,4 @@ use Rattle.rolls.proofs.valid_record.Goals as goal
 
 pub returns : goal.returns
 returns c =
-    let less = c.less.ensures in
-    c.within.ensures c.args.p (rw less at c.bound.ensures) c.bound-2.ensures
+    c.within.ensures c.args.p (rw c.saturating_sub.ensures at c.bound.ensures) c.bound-2.ensures
