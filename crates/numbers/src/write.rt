@@ -3,24 +3,21 @@ ghost use Rattle.std.specs.Prelude.{◌+◌};
 ghost use Rattle.laws.specs.Written.{Written};
 ghost use Rattle.numbers.specs.Bytes.{two_bytes, four_bytes};
 
+#[tactic(auto, using(laws::proofs::Writes::past_end, laws::proofs::Writes::two_bytes_lem, laws::proofs::Writes::first_byte), unfolding(crate::specs::Bytes::two_bytes))]
 pub fn put_two(x: u16, out: &mut [u8], at: usize)
     ensures { Written out.old at (two_bytes x) out.new (at + 2) }
 {
-    let low = (x % 256) as u8;
-    let high = (x / 256) as u8;
-    let len = out.len();
-    if len <= at {
-        return;
-    }
-    let next = at + 1;
-    if next < len {
-        out[at] = low;
-        out[next] = high;
+    let [low, high] = x.to_le_bytes();
+    if out.len() <= at {
         return;
     }
     out[at] = low;
+    if at + 1 < out.len() {
+        out[at + 1] = high;
+    }
 }
 
+#[tactic(auto, using(laws::proofs::Writes::past_end, laws::proofs::Writes::then_more), unfolding(crate::specs::Bytes::two_bytes, crate::specs::Bytes::four_bytes))]
 pub fn put_four(x: u32, out: &mut [u8], at: usize)
     ensures { Written out.old at (four_bytes x) out.new (at + 4) }
 {

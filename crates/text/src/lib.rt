@@ -8,6 +8,7 @@ ghost use Rattle.std.specs.Prelude.{[], ◌∷◌};
 ghost use Rattle.text_rules.specs.Decimal.{decimal};
 ghost use Rattle.text_rules.specs.Laid.{Laid};
 
+#[tactic(auto, using(text_rules::proofs::Laying::no_room))]
 pub fn byte(b: u8, out: &mut [u8], at: usize) -> usize
     ensures { Laid out.old at (b ∷ []) out.new result }
 {
@@ -22,10 +23,8 @@ pub fn word(text: &[u8], out: &mut [u8], at: usize) -> usize
     ensures { Laid out.old at text.now out.new result }
 {
     let mut e = at;
-    let mut k: usize = 0;
-    while k < text.len() {
-        e = byte(text[k], out, e);
-        k += 1;
+    for &b in text {
+        e = byte(b, out, e);
     }
     e
 }

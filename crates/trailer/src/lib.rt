@@ -9,7 +9,6 @@ ghost use Rattle.planfile_rules.specs.File.{trailer_in, trailer_of, devices_for,
 ghost use Rattle.planfile_rules.specs.Writing.{trailer_bytes, trailer_for};
 
 use numbers::read::{four_at, two_at};
-use numbers::widths::{broad, wide};
 use numbers::write::{put_four, put_two};
 use planfile_rules::Trailer;
 use rules::{Refusal, Verdict};
@@ -91,11 +90,11 @@ pub fn judge(len: usize, t: Trailer) -> Verdict
 pub fn trailer_for(n: u8) -> Trailer
     ensures { result ≡ trailer_for n }
 {
-    let size = 8 + 12 * wide(n);
+    let size = 8 + 12 * u16::from(n);
     Trailer {
         size,
         version: 1,
-        back: broad(size) + 10,
+        back: u32::from(size) + 10,
         mark: MARK,
     }
 }
