@@ -1,14 +1,8 @@
 -- Laws of bits: what a bit of a number reads, of numbers that are made of bits.
-use Prim.Native.Nat.{ℕ, zero, suc, ◌+◌, ◌-◌, ◌*◌, ◌/◌, ◌%◌, ◌^◌, ◌≤◌, ◌<◌}
-use native.Mathlib.Omega.{arith}
-use native.Mathlib.Nat.{div-eq_of_lt, add-div_right, add-mul-div_left, add-mul-mod_self_right, add-zero, div-one, pow-suc, one-mul, div-lt_iff_lt-mul, lt_of_lt_of_le}
-use mathlib.Core.Path.{◌≡◌, refl, ◌∙◌, ap}
-use mathlib.Core.Bool.{Bool, true, false, cond}
-use lib.Dec.{eqb}
+use Rattle.std.proofs.Common.{ℕ, zero, suc, ◌+◌, ◌-◌, ◌*◌, ◌/◌, ◌%◌, ◌^◌, ◌≤◌, ◌<◌, arith, add-zero, div-one, pow-suc, one-mul, div-lt_iff_lt-mul, lt_of_lt_of_le, ◌≡◌, refl, ◌∙◌, ap, Bool, true, false, cond, eqb, pow_pos, pow-add, pow_mono, shr-shr, ltb-true, eqb-true, lt-ltb, ◌↔◌}
+use native.Mathlib.Nat.{div-eq_of_lt, add-div_right, add-mul-div_left, add-mul-mod_self_right}
 use lib.Arith.{bin_ind}
-use lib.Pow.{pow_pos, pow-add, pow_mono, shr-shr}
-use borrow.Author.Tests.{ltb-true, eqb-true, eqb-false, lt-ltb}
-use mathlib.Core.Logic.{◌↔◌}
+use borrow.Author.Tests.{eqb-false}
 use Rattle.laws.specs.Bits.{bit, clear_from, of_bits}
 use Rattle.laws.proofs.Tests.{case, tests}
 

@@ -1,15 +1,8 @@
 -- Laws of lists that are given by what stands at each number from 1.
-use Prim.Native.Nat.{ℕ, zero, suc, ◌+◌, ◌-◌, ◌*◌, ◌≤◌, ◌<◌}
-use native.Mathlib.Omega.{arith}
-use native.Mathlib.Nat.{mul-suc, mul-le-mul_left}
-use native.Mathlib.Numerals.{add-one}
-use mathlib.Core.Path.{◌≡◌, refl, sym, ◌∙◌, ap}
-use mathlib.Core.List.{List, [], ◌∷◌, ◌++◌}
-use mathlib.Core.Bool.{Bool, false, cond}
-use lib.Dec.{leb, eqb}
-use borrow.Author.Tests.{eqb-true, eqb-false, lt-leb, le-leb}
-use lib.ListN.{length, get_or, set, take, drop, length-set, length-append, get_or-append}
-use lib.Seq.{get_or_at, set_at, drop-cons, take-add, drop-drop, append_snoc, ext_get_or, get_or-append-add, get_or-set_same, get_or-set_other}
+use Rattle.std.proofs.Common.{ℕ, zero, suc, ◌+◌, ◌-◌, ◌*◌, ◌≤◌, ◌<◌, arith, mul-suc, mul-le-mul_left, add-one, ◌≡◌, refl, sym, ◌∙◌, ap, List, [], ◌∷◌, ◌++◌, Bool, false, cond, leb, eqb, eqb-true, le-leb, length, get_or, set, take, drop, length-set, length-append, drop-cons, take-add, drop-drop, ext_get_or, get_or-append-add, get_or-set_same, get_or-set_other}
+use borrow.Author.Tests.{eqb-false, lt-leb}
+use lib.ListN.{get_or-append}
+use lib.Seq.{get_or_at, set_at, append_snoc}
 use Rattle.laws.specs.Lists.{tabulate, swept, joined}
 use Rattle.laws.proofs.Tests.{case, tests}
 

@@ -1,12 +1,6 @@
 -- One law for all writes: what is written from a place on, and then from where that ends, is one text.
-use Prim.Native.Nat.{ℕ, suc, ◌+◌, ◌-◌, ◌≤◌, ◌<◌}
-use native.Mathlib.Omega.{arith}
-use native.Mathlib.Nat.{add-zero, add-suc, suc-add, add_assoc}
-use native.Mathlib.Numerals.{add-one}
-use mathlib.Core.Path.{◌≡◌, refl, sym, ◌∙◌, ap}
-use mathlib.Core.List.{List, [], ◌∷◌, ◌++◌, append-nil, append_assoc}
-use lib.ListN.{length, length-append, length-drop, length-set, take, drop, get_or, set, drop_of_length-le}
-use lib.Seq.{set_out, sets, sets-eq, length-sets, length-take-le, take-suc, take-length, drop-drop}
+use Rattle.std.proofs.Common.{ℕ, suc, ◌+◌, ◌-◌, ◌≤◌, ◌<◌, arith, add-zero, add-suc, suc-add, add_assoc, add-one, ◌≡◌, refl, sym, ◌∙◌, ap, List, [], ◌∷◌, ◌++◌, append-nil, append_assoc, length, length-append, length-drop, length-set, take, drop, get_or, set, drop_of_length-le, length-take-le, take-suc, drop-drop}
+use lib.Seq.{set_out, sets, sets-eq, length-sets, take-length}
 use Rattle.laws.specs.Lists.{joined}
 use Rattle.laws.specs.Written.{Written}
 

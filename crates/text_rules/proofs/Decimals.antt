@@ -1,12 +1,6 @@
 -- Laws of numbers in decimal: the last digit taken off, how many digits there are, and what they stand for.
-use Prim.Native.Nat.{ℕ, zero, suc, ◌+◌, ◌-◌, ◌*◌, ◌/◌, ◌%◌, ◌^◌, ◌≤◌, ◌<◌}
-use native.Mathlib.Omega.{arith}
-use native.Mathlib.Nat.{div-lt_iff_lt-mul, pow-suc}
-use mathlib.Core.Path.{◌≡◌, refl}
-use mathlib.Core.List.{List, [], ◌∷◌, ◌++◌}
-use lib.Dec.{ltb}
-use lib.ListN.{length, get_or, length-append, get_or-append}
-use borrow.Author.Tests.{lt-ltb, le-ltb, ltb-true, ltb-false}
+use Rattle.std.proofs.Common.{ℕ, zero, suc, ◌+◌, ◌-◌, ◌*◌, ◌/◌, ◌%◌, ◌^◌, ◌≤◌, ◌<◌, arith, div-lt_iff_lt-mul, pow-suc, ◌≡◌, refl, List, [], ◌∷◌, ◌++◌, ltb, length, get_or, length-append, lt-ltb, le-ltb, ltb-true, ltb-false}
+use lib.ListN.{get_or-append}
 use Rattle.laws.proofs.Tests.{case, tests}
 use Rattle.text_rules.specs.Decimal.{digit, digits, decimal, read_on, number_of}
 use Rattle.text_rules.specs.Theorems.{DecimalBack, NoZeroInFront, DigitsFew}

@@ -1,12 +1,6 @@
 -- Laws of texts that are laid one behind the other, with room or without.
-use Prim.Native.Nat.{ℕ, ◌+◌, ◌≤◌, ◌<◌}
-use native.Mathlib.Omega.{arith}
-use native.Mathlib.Numerals.{add-one}
-use mathlib.Core.Path.{◌≡◌, refl, sym, ◌∙◌, ap}
-use mathlib.Core.List.{List, [], ◌∷◌, ◌++◌}
-use lib.Dec.{leb}
-use lib.ListN.{length, length-append, take, get_or}
-use lib.Seq.{set_out, sets, length-sets, take-suc, take-length}
+use Rattle.std.proofs.Common.{ℕ, ◌+◌, ◌≤◌, ◌<◌, arith, add-one, ◌≡◌, refl, sym, ◌∙◌, ap, List, [], ◌∷◌, ◌++◌, leb, length, length-append, take, get_or, take-suc}
+use lib.Seq.{set_out, sets, length-sets, take-length}
 use Rattle.laws.specs.Written.{Written}
 use Rattle.laws.proofs.Tests.{case, tests}
 use Rattle.laws.proofs.Writes as writes

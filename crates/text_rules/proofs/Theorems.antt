@@ -1,12 +1,6 @@
 -- What a reader sees of a text that was laid: the bytes around it, and its own.
-use Prim.Native.Nat.{ℕ, zero, suc, ◌+◌, ◌≤◌, ◌<◌}
-use native.Mathlib.Omega.{arith}
-use native.Mathlib.Nat.{add-zero, add-suc, suc-add}
-use mathlib.Core.Path.{◌≡◌, refl, ◌∙◌, ap}
-use mathlib.Core.Logic.{◌⊎◌, inl, inr, ⊎_elim}
-use mathlib.Core.List.{List, [], ◌∷◌, ◌++◌, append_assoc}
-use lib.ListN.{length, get_or, set, take, drop, length-set}
-use lib.Seq.{sets, sets-eq, get_or-set_same, get_or-set_other, length-take-le, drop_at, take-append_seam}
+use Rattle.std.proofs.Common.{ℕ, zero, suc, ◌+◌, ◌≤◌, ◌<◌, arith, add-zero, add-suc, suc-add, ◌≡◌, refl, ◌∙◌, ap, ◌⊎◌, inl, inr, ⊎_elim, List, [], ◌∷◌, ◌++◌, append_assoc, length, get_or, set, take, drop, length-set, get_or-set_same, get_or-set_other, length-take-le, drop_at}
+use lib.Seq.{sets, sets-eq, take-append_seam}
 use Rattle.text_rules.specs.Theorems.{LengthStays, RestKept, InPlace, StandsWhole, PlainWrite, OneText}
 use Rattle.text_rules.proofs.Laying.{length_kept, with_room, and_then}
 

@@ -1,10 +1,5 @@
 -- Theorem 1: a plan is accepted exactly when it meets the table.
-use Prim.Native.Nat.{ℕ, zero, suc, ◌≤◌, ◌<◌}
-use native.Mathlib.Omega.{arith}
-use mathlib.Core.Path.{◌≡◌, refl}
-use mathlib.Core.Bool.{false}
-use lib.Dec.{leb, eqb}
-use borrow.Author.Tests.{leb-true, eqb-true, lt-ltb, le-leb, eq-eqb}
+use Rattle.std.proofs.Common.{ℕ, zero, suc, ◌≤◌, ◌<◌, arith, ◌≡◌, refl, false, leb, eqb, leb-true, eqb-true, lt-ltb, le-leb, eq-eqb}
 use Rattle.laws.proofs.Tests.{tests, case, holds, NoneHolds, all_hold, all_of_lem, none_hold, none_of}
 use Rattle.rules.specs.declared.Plan.{Plan}
 use Rattle.rules.specs.Verdict.{Accepted}

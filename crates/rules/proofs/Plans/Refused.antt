@@ -1,10 +1,5 @@
 -- Theorem 2: a plan is refused with the first line that it breaks, at that line's lowest index.
-use Prim.Native.Nat.{ℕ, zero, suc, ◌≤◌, ◌<◌}
-use native.Mathlib.Omega.{arith}
-use mathlib.Core.Path.{◌≡◌, refl}
-use mathlib.Core.Bool.{true, false}
-use lib.Dec.{leb, ltb, eqb}
-use borrow.Author.Tests.{ltb-true, leb-true, eqb-true}
+use Rattle.std.proofs.Common.{ℕ, zero, suc, ◌≤◌, ◌<◌, arith, ◌≡◌, refl, true, false, leb, ltb, eqb, ltb-true, leb-true, eqb-true}
 use Rattle.laws.proofs.Tests.{tests, case, clash, all_hold}
 use Rattle.rules.specs.declared.Plan.{Plan}
 use Rattle.rules.specs.Verdict.{Accepted, Refused}

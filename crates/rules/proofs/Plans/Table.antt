@@ -1,12 +1,8 @@
 -- How the table's lines are read: at an index of its own a line that is not broken gives its condition, and its condition
 -- keeps it unbroken. No line is broken beyond the eight slots.
-use Prim.Native.Nat.{ℕ, zero, suc, ◌+◌, ◌-◌, ◌≤◌, ◌<◌}
-use native.Mathlib.Omega.{arith}
-use mathlib.Core.Path.{◌≡◌, refl, ap}
-use mathlib.Core.Bool.{Bool, true, false}
-use lib.Dec.{ltb, eqb}
-use lib.ListN.{get_or, get_or-eq_default}
-use borrow.Author.Tests.{ltb-true, eqb-true, lt-ltb, le-leb, not-false}
+use Rattle.std.proofs.Common.{ℕ, zero, suc, ◌+◌, ◌-◌, ◌≤◌, ◌<◌, arith, ◌≡◌, refl, ap, Bool, true, false, ltb, eqb, get_or, ltb-true, eqb-true, lt-ltb, le-leb}
+use lib.ListN.{get_or-eq_default}
+use borrow.Author.Tests.{not-false}
 use Rattle.laws.specs.Tests.{lowest}
 use Rattle.laws.proofs.Tests.{tests, NoneHolds, all_hold, all_of_lem, none_of, none_at, lowest_none, lowest_holds, lowest_is, lowest_is_none}
 use Rattle.rules.specs.declared.Plan.{Plan}

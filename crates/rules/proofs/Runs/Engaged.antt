@@ -1,9 +1,6 @@
 -- A tick's byte shows exactly the devices in Running and in Exiting 1.
-use Prim.Native.Nat.{ℕ, ◌+◌, ◌-◌, ◌≤◌}
-use native.Mathlib.Omega.{arith}
-use mathlib.Core.Path.{◌≡◌, refl, sym, ◌∙◌, ap}
-use mathlib.Core.Logic.{◌⊎◌, inl, inr, ⊎_elim}
-use mathlib.Core.Bool.{true, false, false≢true}
+use Rattle.std.proofs.Common.{ℕ, ◌+◌, ◌-◌, ◌≤◌, arith, ◌≡◌, refl, sym, ◌∙◌, ap, ◌⊎◌, inl, inr, ⊎_elim, true, false}
+use mathlib.Core.Bool.{false≢true}
 use Rattle.laws.specs.Bits.{bit}
 use Rattle.laws.proofs.Bits.{of_bits_at, of_bits_above}
 use Rattle.rules.specs.declared.Plan.{Plan}

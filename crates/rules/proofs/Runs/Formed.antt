@@ -1,10 +1,5 @@
 -- A run keeps a well-formed state well formed, and gives a byte a tick.
-use Prim.Native.Nat.{ℕ, zero, suc}
-use native.Mathlib.Omega.{arith}
-use mathlib.Core.Path.{◌≡◌, refl, ◌∙◌}
-use mathlib.Core.Bool.{true}
-use mathlib.Core.List.{List}
-use lib.ListN.{length, length-append}
+use Rattle.std.proofs.Common.{ℕ, zero, suc, arith, ◌≡◌, refl, ◌∙◌, true, List, length, length-append}
 use Rattle.rules.specs.declared.Plan.{Plan}
 use Rattle.rules.specs.declared.Yard.{Yard}
 use Rattle.rules.specs.Verdict.{Accepted}

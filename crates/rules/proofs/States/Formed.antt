@@ -1,10 +1,7 @@
 -- A well-formed state, read as facts: what the tests of `well_formed` say, both ways.
-use Rattle.std.specs.Prelude.{Option}
-use Prim.Native.Nat.{ℕ, zero, suc, ◌≤◌, ◌<◌}
-use mathlib.Core.Path.{◌≡◌, refl, sym, ◌∙◌, ap}
-use mathlib.Core.Bool.{true, false≢true}
-use lib.Dec.{leb, ltb}
-use borrow.Author.Tests.{ltb-true, ltb-false, leb-true, leb-false, eqb-true, lt-ltb, le-ltb, le-leb, lt-leb, eq-eqb}
+use Rattle.std.proofs.Common.{Option, ℕ, zero, suc, ◌≤◌, ◌<◌, ◌≡◌, refl, sym, ◌∙◌, ap, true, leb, ltb, ltb-true, ltb-false, leb-true, leb-false, eqb-true, lt-ltb, le-ltb, le-leb, eq-eqb}
+use mathlib.Core.Bool.{false≢true}
+use borrow.Author.Tests.{lt-leb}
 use Rattle.laws.proofs.Tests.{case, all_hold, all_of_lem, each_holds, each_of}
 use Rattle.rules.specs.declared.Plan.{Plan}
 use Rattle.rules.specs.declared.Base.{Base}

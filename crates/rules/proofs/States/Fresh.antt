@@ -1,7 +1,5 @@
 -- A fresh yard is what document 01 says, field by field.
-use Prim.Native.Nat.{ℕ, ◌-◌, ◌≤◌}
-use native.Mathlib.Omega.{arith}
-use mathlib.Core.Path.{◌≡◌, refl}
+use Rattle.std.proofs.Common.{ℕ, ◌-◌, ◌≤◌, arith, ◌≡◌, refl}
 use lib.ListN.{get_or-replicate}
 use Rattle.rules.specs.Yard.{device, engaged, fresh_device, fresh_yard}
 use Rattle.rules.specs.Theorems.{FreshExactly}

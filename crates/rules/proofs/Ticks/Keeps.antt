@@ -1,8 +1,7 @@
 -- Theorem 3: under an accepted plan a tick keeps a well-formed state well formed.
 pub mod Devices
 pub mod Base
-use Prim.Native.Nat.{ℕ, ◌≤◌}
-use mathlib.Core.Path.{◌∙◌}
+use Rattle.std.proofs.Common.{ℕ, ◌≤◌, ◌∙◌}
 use Rattle.rules.specs.declared.Plan.{Plan}
 use Rattle.rules.specs.declared.Yard.{Yard}
 use Rattle.rules.specs.declared.Record.{Record}

@@ -1,5 +1,5 @@
 -- A record is taken exactly when its command is one of three and all other bits are zero.
-use borrow.Author.Tests.{leb-true, le-leb}
+use Rattle.std.proofs.Common.{leb-true, le-leb}
 use Rattle.laws.proofs.Tests.{all_hold, all_of_lem}
 use Rattle.laws.proofs.Bits.{clear_exactly}
 use Rattle.rules.specs.Tick.Input.{valid_record}

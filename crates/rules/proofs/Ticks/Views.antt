@@ -1,9 +1,6 @@
 -- What a tick does to one device: its four steps, seen at device i. Everything about a general i goes through here.
-use Prim.Native.Nat.{ℕ, ◌≤◌, ◌<◌}
-use mathlib.Core.Path.{◌≡◌, refl, ◌∙◌, ap}
-use mathlib.Core.Bool.{cond}
-use lib.Dec.{leb}
-use borrow.Author.Tests.{le-leb, lt-leb}
+use Rattle.std.proofs.Common.{ℕ, ◌≤◌, ◌<◌, ◌≡◌, refl, ◌∙◌, ap, cond, leb, le-leb}
+use borrow.Author.Tests.{lt-leb}
 use Rattle.laws.proofs.Lists.{tabulate_at}
 use Rattle.rules.specs.declared.Plan.{Plan}
 use Rattle.rules.specs.declared.Yard.{Yard}

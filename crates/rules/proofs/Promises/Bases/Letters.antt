@@ -1,9 +1,6 @@
 -- A letter that goes up tells the truth of the device that wrote it: after Approve it has just entered, after Deny and Exit
 -- it is idle.
-use Rattle.std.specs.Prelude.{Option}
-use Prim.Native.Nat.{ℕ, ◌+◌, ◌≤◌, ◌<◌}
-use native.Mathlib.Omega.{arith}
-use lib.Dec.{eqb}
+use Rattle.std.proofs.Common.{Option, ℕ, ◌+◌, ◌≤◌, ◌<◌, arith, eqb}
 use Rattle.laws.proofs.Tests.{tests, on_cond}
 use Rattle.rules.specs.declared.Plan.{Plan}
 use Rattle.rules.specs.declared.Yard.{Yard}

@@ -1,12 +1,6 @@
 -- What the base does in a tick, in terms of stays: it rests, opens a lease, goes on to the next device, holds, goes back
 -- from a device that is out, or the lease expires. It calls off no device but that of its new place.
-use Rattle.std.specs.Prelude.{Option}
-use Prim.Native.Nat.{ℕ, ◌+◌, ◌-◌, ◌*◌, ◌≤◌, ◌<◌}
-use native.Mathlib.Omega.{arith}
-use mathlib.Core.Path.{◌≡◌, refl, subst}
-use mathlib.Core.Bool.{Bool, true, not, ◌&&◌, cond}
-use lib.Dec.{ltb, eqb}
-use borrow.Author.Tests.{eqb-true, ltb-true, ltb-false}
+use Rattle.std.proofs.Common.{Option, ℕ, ◌+◌, ◌-◌, ◌*◌, ◌≤◌, ◌<◌, arith, ◌≡◌, refl, subst, Bool, true, not, ◌&&◌, cond, ltb, eqb, eqb-true, ltb-true, ltb-false}
 use Rattle.laws.proofs.Tests.{tests, on_cond}
 use Rattle.rules.specs.declared.Plan.{Plan}
 use Rattle.rules.specs.declared.Base.{Base}

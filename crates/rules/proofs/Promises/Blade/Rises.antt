@@ -1,11 +1,6 @@
 -- Steps 1 and 2 of the devices on the way to the blade: one that rests goes on resting, one that has approved still says so,
 -- and the initializer requests, waits, enters and runs.
-use Rattle.std.specs.Prelude.{Option}
-use Prim.Native.Nat.{ℕ, ◌+◌, ◌<◌}
-use native.Mathlib.Omega.{arith}
-use mathlib.Core.Path.{◌≡◌, refl}
-use lib.Dec.{eqb}
-use borrow.Author.Tests.{eq-eqb, ne_eqb}
+use Rattle.std.proofs.Common.{Option, ℕ, ◌+◌, ◌<◌, arith, ◌≡◌, refl, eqb, eq-eqb, ne_eqb}
 use Rattle.laws.proofs.Tests.{on_cond}
 use Rattle.rules.specs.declared.Plan.{Plan}
 use Rattle.rules.specs.declared.Place.{Place}

@@ -1,11 +1,5 @@
 -- The yard on the way to the blade: the lease has come to device i; the initializer has been granted and enters.
-use Rattle.std.specs.Prelude.{Option}
-use Prim.Native.Nat.{ℕ, ◌+◌, ◌-◌, ◌*◌, ◌≤◌, ◌<◌}
-use native.Mathlib.Omega.{arith}
-use native.Mathlib.Nat.{mul-le-mul_left}
-use mathlib.Core.Path.{◌≡◌, refl}
-use mathlib.Core.Bool.{Bool, true}
-use borrow.Author.Tests.{eq-eqb, le-ltb}
+use Rattle.std.proofs.Common.{Option, ℕ, ◌+◌, ◌-◌, ◌*◌, ◌≤◌, ◌<◌, arith, mul-le-mul_left, ◌≡◌, refl, Bool, true, eq-eqb, le-ltb}
 use Rattle.rules.specs.declared.Plan.{Plan}
 use Rattle.rules.specs.declared.Slot.{Slot}
 use Rattle.rules.specs.declared.Yard.{Yard}

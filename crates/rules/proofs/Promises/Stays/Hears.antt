@@ -1,11 +1,5 @@
 -- Step 4, as a stay sees it: the down letter leaves a device as it is, is denied by an idle one, starts a stay or halts it.
-use Rattle.std.specs.Prelude.{Option}
-use Prim.Native.Nat.{ℕ, ◌+◌, ◌<◌}
-use native.Mathlib.Omega.{arith}
-use mathlib.Core.Path.{◌≡◌, refl}
-use mathlib.Core.Bool.{Bool}
-use lib.Dec.{eqb}
-use borrow.Author.Tests.{eqb-true}
+use Rattle.std.proofs.Common.{Option, ℕ, ◌+◌, ◌<◌, arith, ◌≡◌, refl, Bool, eqb, eqb-true}
 use Rattle.laws.proofs.Tests.{tests, on_cond}
 use Rattle.rules.specs.declared.Plan.{Plan}
 use Rattle.rules.specs.declared.Slot.{Slot}

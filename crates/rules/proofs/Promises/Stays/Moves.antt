@@ -1,12 +1,6 @@
 -- One tick of a device, as its stay sees it: it rests, starts, goes on, is halted or ends. Steps 1 and 2 never start a
 -- stay, and halt one only at the initializer.
-use Rattle.std.specs.Prelude.{Option}
-use Prim.Native.Nat.{ℕ, ◌+◌, ◌≤◌, ◌<◌}
-use native.Mathlib.Omega.{arith}
-use mathlib.Core.Path.{◌≡◌, refl}
-use mathlib.Core.Bool.{true, cond}
-use lib.Dec.{eqb}
-use borrow.Author.Tests.{eqb-true}
+use Rattle.std.proofs.Common.{Option, ℕ, ◌+◌, ◌≤◌, ◌<◌, arith, ◌≡◌, refl, true, cond, eqb, eqb-true}
 use Rattle.laws.proofs.Tests.{tests, on_cond}
 use Rattle.rules.specs.declared.Plan.{Plan}
 use Rattle.rules.specs.declared.Slot.{Slot}

@@ -1,9 +1,7 @@
 -- A stay: the places that belong to it, how many of its ticks are spent, and how old it is at least. What is left of it is
 -- E + R + X less what is spent, and E + R less what is spent is left until Exiting 1.
-use Prim.Native.Nat.{ℕ, ◌+◌, ◌≤◌, ◌<◌}
-use native.Mathlib.Omega.{arith}
-use mathlib.Core.Path.{◌≡◌, refl}
-use mathlib.Core.Bool.{true, false≢true}
+use Rattle.std.proofs.Common.{ℕ, ◌+◌, ◌≤◌, ◌<◌, arith, ◌≡◌, refl, true}
+use mathlib.Core.Bool.{false≢true}
 use Rattle.rules.specs.declared.Plan.{Plan}
 use Rattle.rules.specs.declared.Slot.{Slot}
 use Rattle.rules.specs.declared.Place.{Place}

@@ -1,11 +1,5 @@
 -- Steps 1, 2 and 4 keep a device well formed, under an accepted plan.
-use Rattle.std.specs.Prelude.{Option}
-use Prim.Native.Nat.{ℕ, ◌≤◌, ◌<◌}
-use native.Mathlib.Omega.{arith}
-use mathlib.Core.Path.{◌≡◌, refl}
-use mathlib.Core.Bool.{Bool, true, false}
-use lib.Dec.{ltb, eqb}
-use borrow.Author.Tests.{eqb-true}
+use Rattle.std.proofs.Common.{Option, ℕ, ◌≤◌, ◌<◌, arith, ◌≡◌, refl, Bool, true, false, ltb, eqb, eqb-true}
 use Rattle.laws.proofs.Tests.{tests, on_cond, clash}
 use Rattle.rules.specs.declared.Plan.{Plan}
 use Rattle.rules.specs.declared.Place.{Place}
