@@ -5,6 +5,7 @@ use mathlib.Core.Bool.{true, ◌&&◌}
 use mathlib.Core.List.{List, ◌++◌}
 use lib.ListN.{length, take, drop}
 use lib.Seq.{take-append_seam}
+use Rattle.std.specs.Prelude.{Err}
 use Rattle.laws.proofs.Tests.{case}
 use Rattle.laws.proofs.Lists.{tabulate_length}
 use Rattle.numbers.specs.Bytes.{AllBytes}
@@ -60,7 +61,7 @@ chain :
     (v : Verdict) (y : Yard) (yard left : List ℕ) → length y.devices ≡ 8
     → ((k i : ℕ) → v ≡ Refused k i → y ≡ yard_of yard) → left ≡ if_accepted v (yard_bytes y) yard → yard_of left ≡ y
 chain Accepted y yard left eight kept e = rw e (yard_back y eight)
-chain (Refused k i) y yard left eight kept e = rw e (sym (kept k i refl))
+chain (Err r) y yard left eight kept e = rw e (sym (kept r.number r.index refl))
 
 eight_slots : (file : List ℕ) → length (read_answer file).plan.slots ≡ 8
 unfolding read_answer answer_of plan_in slots_in empty_plan

@@ -1,10 +1,9 @@
 -- Document 01, "The plan file": the finder hands back the refused piece of whichever is at fault, file or roll, a part of the
 -- lent bytes and nothing else.
-use Rattle.std.specs.Prelude.{ℕ, ◌+◌, ◌-◌, ◌≤◌, min, ◌≡◌, not, cond, List, ltb, eqb, length, take, drop}
+use Rattle.std.specs.Prelude.{ℕ, ◌+◌, ◌-◌, ◌≤◌, min, ◌≡◌, not, cond, List, ltb, eqb, length, take, drop, Err}
 use Rattle.std.specs.Borrow.{Bor}
 use Rattle.rules.specs.declared.Plan.{Plan}
-use Rattle.rules.specs.Verdict.{Verdict}
-use Rattle.rules.specs.Verdict.{Accepted, Refused}
+use Rattle.rules.specs.Verdict.{Verdict, Accepted}
 use Rattle.rules.specs.Run.{record_size, records, left_over, record_start, first_bad}
 use Rattle.planfile_rules.specs.File.{body_span, read_answer}
 use Rattle.finder_rules.specs.declared.Piece.{Piece}
@@ -31,7 +30,7 @@ roll_length p roll =
 -- The roll is looked at only after the plan has been taken.
 abbrev pub piece_for : Verdict → Plan → List ℕ → List ℕ → Piece
 piece_for Accepted p file roll = InRoll (roll_start p roll) (roll_length p roll)
-piece_for (Refused k i) p file roll = InFile (file_start file k) (file_length file k)
+piece_for (Err r) p file roll = InFile (file_start file r.number) (file_length file r.number)
 
 unfoldable pub piece : List ℕ → List ℕ → Piece
 piece file roll = piece_for (read_answer file).verdict (read_answer file).plan file roll
