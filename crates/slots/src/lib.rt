@@ -12,6 +12,7 @@ use numbers::write::put_two;
 use rules::Slot;
 
 // A device's six times, from its twelve bytes.
+#[tactic(auto, unfolding(planfile_rules::specs::File::slot_in))]
 pub fn slot_in(twelve: &[u8]) -> Slot
     ensures { result ≡ slot_in twelve.now 0 }
 {

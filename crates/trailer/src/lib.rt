@@ -23,6 +23,7 @@ pub fn refusal(number: u8) -> Verdict
     Err(Refusal { number, index: 0 })
 }
 
+#[tactic(auto, unfolding(planfile_rules::specs::File::trailer_in))]
 fn read_trailer(ten: &[u8]) -> Trailer
     ensures { result ≡ trailer_in ten.now }
 {
@@ -38,23 +39,18 @@ fn read_trailer(ten: &[u8]) -> Trailer
 pub fn trailer_of(file: &[u8]) -> Trailer
     ensures { result ≡ trailer_of file.now }
 {
-    let len = file.len();
-    if len < 10 {
-        return read_trailer(file);
-    }
-    let last = len - 10;
+    let last = file.len().saturating_sub(10);
     read_trailer(&file[last..])
 }
 
+#[tactic(auto, unfolding(planfile_rules::specs::File::devices_for))]
 pub fn devices_for(size: u16) -> u16
     ensures { result ≡ devices_for size }
 {
-    if size < 8 {
-        return 0;
-    }
-    (size - 8) / 12
+    size.saturating_sub(8) / 12
 }
 
+#[tactic(auto, unfolding(planfile_rules::specs::File::devices_for, planfile_rules::specs::File::is_body_size))]
 fn is_body_size(size: u16) -> bool
     ensures { result ≡ is_body_size size }
 {
@@ -63,6 +59,7 @@ fn is_body_size(size: u16) -> bool
 }
 
 // The verdict on a trailer in a file of len bytes. A distance may be any four-byte number: it is compared, never added to.
+#[tactic(auto, unfolding(planfile_rules::specs::File::trailer_verdict, rules::specs::Verdict::first_refusal))]
 pub fn judge(len: usize, t: Trailer) -> Verdict
     ensures { result ≡ trailer_verdict len t }
 {
@@ -78,7 +75,7 @@ pub fn judge(len: usize, t: Trailer) -> Verdict
     if !is_body_size(t.size) {
         return refusal(17);
     }
-    let size = t.size as usize;
+    let size = usize::from(t.size);
     let back = t.back as usize;
     if (back < size + 10) | (len < back) {
         return refusal(18);
@@ -87,6 +84,7 @@ pub fn judge(len: usize, t: Trailer) -> Verdict
 }
 
 // The trailer of a file that is written for n devices.
+#[tactic(auto, unfolding(planfile_rules::specs::Writing::trailer_for))]
 pub fn trailer_for(n: u8) -> Trailer
     ensures { result ≡ trailer_for n }
 {
@@ -100,6 +98,7 @@ pub fn trailer_for(n: u8) -> Trailer
 }
 
 // A trailer's ten bytes, from a place on.
+#[tactic(auto, using(laws::proofs::Writes::past_end, laws::proofs::Writes::then_more), unfolding(planfile_rules::specs::Writing::trailer_bytes, numbers::specs::Bytes::two_bytes, numbers::specs::Bytes::four_bytes))]
 pub fn put_trailer(t: Trailer, out: &mut [u8], at: usize)
     ensures { Written out.old at (trailer_bytes t) out.new (at + 10) }
 {
