@@ -4,18 +4,11 @@
 // `last` is what is heard from the initializer, `own` what is heard from the device i of the supervisor's place.
 #![tactic(auto)]
 
-ghost use Rattle.std.specs.Prelude.{◌≡◌, ◌-◌, ◌<◌};
+ghost use Rattle.std.specs.Prelude.{◌≡◌, ◌≢◌, ◌-◌, ◌<◌};
 ghost use Rattle.rules.specs.Yard as yard;
 ghost use Rattle.rules.specs.Tick.Step3 as step3;
 
 use rules::{Base, BaseMove, Down, Letter, Terms};
-use vocabulary::letter_number;
-
-fn same_letter(a: Option<Letter>, b: Option<Letter>) -> bool
-    ensures { result ≡ yard.same_letter a b }
-{
-    letter_number(a) == letter_number(b)
-}
 
 // Every change of place sets the place clock to 0.
 fn goes(base: Base, lease: u32, down: Option<Down>) -> BaseMove
@@ -58,29 +51,16 @@ fn aborts(i: u8, lease: u32) -> BaseMove
     goes(Base::Abort(i), lease, Some(Down::Abort(i)))
 }
 
-// The device before i; before 0 there is none, and it is 0 again.
-fn one_below(i: u8) -> u8
-    ensures { result ≡ i - 1 }
-{
-    if i == 0 { 0 } else { i - 1 }
-}
-
-fn cancels_below(i: u8, lease: u32) -> BaseMove
-    ensures { result ≡ step3.below step3.cancels i lease }
+// The same kind at i - 1, sent, or Fall-Back when i is 1.
+fn below<K: Fn(u8, u32) -> BaseMove>(kind: K, i: u8, lease: u32) -> BaseMove
+    requires { K.IsAlwaysCallable kind }
+    ensures first { i ≡ 1 → result ≡ step3.falls_back }
+    ensures other { i ≢ 1 → K.post kind (i - 1) lease result }
 {
     if i == 1 {
         return falls_back();
     }
-    cancels(one_below(i), lease)
-}
-
-fn aborts_below(i: u8, lease: u32) -> BaseMove
-    ensures { result ≡ step3.below step3.aborts i lease }
-{
-    if i == 1 {
-        return falls_back();
-    }
-    aborts(one_below(i), lease)
+    kind(i.saturating_sub(1), lease)
 }
 
 // On to the next device, which is below N or N itself: callers have seen that i < N.
@@ -89,16 +69,19 @@ fn leases(t: Terms, i: u8, lease: u32) -> BaseMove
     ensures { result ≡ step3.leases t i lease }
 {
     let next = i + 1;
-    if next == t.N {
-        return goes(Base::Lease(next), lease, Some(Down::Grant(next)));
-    }
-    goes(Base::Lease(next), lease, Some(Down::LeaseReq(next)))
+    let down = if next == t.N {
+        Down::Grant(next)
+    } else {
+        Down::LeaseReq(next)
+    };
+    goes(Base::Lease(next), lease, Some(down))
 }
 
+#[tactic(auto, unfolding(rules::specs::Tick::Step3::in_fall_back))]
 fn in_fall_back(t: Terms, approved: bool, last: Option<Letter>, clock: u16, lease: u32) -> BaseMove
     ensures { result ≡ step3.in_fall_back t approved last clock lease }
 {
-    if same_letter(last, Some(Letter::Request)) & (clock == t.B) & approved {
+    if (last == Some(Letter::Request)) & (clock == t.B) & approved {
         return goes(Base::Lease(1), 0, Some(Down::LeaseReq(1)));
     }
     stays(Base::FallBack, clock, lease)
@@ -117,41 +100,45 @@ fn in_lease(
     requires { i < t.N }
     ensures { result ≡ step3.in_lease t approved last own i clock lease }
 {
-    let waited = clock == t.W;
     if !approved {
         return aborts(i, lease);
     }
-    if same_letter(last, Some(Letter::Cancel)) {
+    if last == Some(Letter::Cancel) {
         return cancels(i, lease);
     }
-    if same_letter(own, Some(Letter::Approve)) {
-        return leases(t, i, lease);
+    match own {
+        Some(Letter::Approve) => leases(t, i, lease),
+        Some(Letter::Deny) => below(cancels, i, lease),
+        _ if clock == t.W => cancels(i, lease),
+        _ => stays(Base::Lease(i), clock, lease),
     }
-    if same_letter(own, Some(Letter::Deny)) {
-        return cancels_below(i, lease);
-    }
-    if waited {
-        return cancels(i, lease);
-    }
-    stays(Base::Lease(i), clock, lease)
 }
 
-fn in_lease_n(approved: bool, last: Option<Letter>, own: Option<Letter>, i: u8, clock: u16, lease: u32) -> BaseMove
+#[tactic(auto, unfolding(rules::specs::Tick::Step3::in_lease_n))]
+fn in_lease_n(
+    approved: bool,
+    last: Option<Letter>,
+    own: Option<Letter>,
+    i: u8,
+    clock: u16,
+    lease: u32,
+) -> BaseMove
     ensures { result ≡ step3.in_lease_n approved last own i clock lease }
 {
-    if same_letter(own, Some(Letter::Exit)) {
-        return cancels(one_below(i), lease);
+    if own == Some(Letter::Exit) {
+        return cancels(i.saturating_sub(1), lease);
     }
     if !approved {
         return aborts(i, lease);
     }
-    if same_letter(last, Some(Letter::Cancel)) {
+    if last == Some(Letter::Cancel) {
         return cancels(i, lease);
     }
     stays(Base::Lease(i), clock, lease)
 }
 
 // The place while a lease runs: below N on to the next device, at N waiting for its exit.
+#[tactic(auto, unfolding(rules::specs::Tick::Step3::leasing))]
 fn leasing(
     t: Terms,
     approved: bool,
@@ -169,25 +156,8 @@ fn leasing(
     in_lease_n(approved, last, own, i, clock, lease)
 }
 
-fn cancelling(own: Option<Letter>, i: u8, clock: u16, lease: u32) -> BaseMove
-    ensures { result ≡ step3.cancelling own i clock lease }
-{
-    if same_letter(own, Some(Letter::Exit)) {
-        return cancels_below(i, lease);
-    }
-    stays(Base::Cancel(i), clock, lease)
-}
-
-fn aborting(own: Option<Letter>, i: u8, clock: u16, lease: u32) -> BaseMove
-    ensures { result ≡ step3.aborting own i clock lease }
-{
-    if same_letter(own, Some(Letter::Exit)) {
-        return aborts_below(i, lease);
-    }
-    stays(Base::Abort(i), clock, lease)
-}
-
 // The supervisor's move. The lease clock at LS comes before approval and before every letter.
+#[tactic(auto, unfolding(rules::specs::Tick::Step3::base_move, rules::specs::Tick::Step3::cancelling, rules::specs::Tick::Step3::aborting))]
 pub fn base_move(
     t: Terms,
     approved: bool,
@@ -199,29 +169,12 @@ pub fn base_move(
 ) -> BaseMove
     ensures { result ≡ step3.base_move t approved last own base clock lease }
 {
-    let over = lease == t.LS;
     match base {
         Base::FallBack => in_fall_back(t, approved, last, clock, lease),
-        Base::Lease(i) => {
-            if over {
-                falls_back()
-            } else {
-                leasing(t, approved, last, own, i, clock, lease)
-            }
-        }
-        Base::Cancel(i) => {
-            if over {
-                falls_back()
-            } else {
-                cancelling(own, i, clock, lease)
-            }
-        }
-        Base::Abort(i) => {
-            if over {
-                falls_back()
-            } else {
-                aborting(own, i, clock, lease)
-            }
-        }
+        _ if lease == t.LS => falls_back(),
+        Base::Lease(i) => leasing(t, approved, last, own, i, clock, lease),
+        Base::Cancel(i) if own == Some(Letter::Exit) => below(cancels, i, lease),
+        Base::Abort(i) if own == Some(Letter::Exit) => below(aborts, i, lease),
+        Base::Cancel(_) | Base::Abort(_) => stays(base, clock, lease),
     }
 }

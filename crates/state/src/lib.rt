@@ -68,18 +68,6 @@ fn base_formed(p: Plan, base: Base, clock: u16, lease: u32) -> bool
     index_formed(p, base) & clock_formed(p, base, clock) & lease_formed(p, base, lease)
 }
 
-fn same_place(a: Place, b: Place) -> bool
-    ensures { result ≡ same_place a b }
-{
-    a == b
-}
-
-fn no_letter(l: Option<Letter>) -> bool
-    ensures { result ≡ same_letter l letter.none }
-{
-    l.is_none()
-}
-
 // The slot of device i, which callers keep within 1 to 8.
 fn slot_of(p: Plan, i: u8) -> Slot
     requires { (1 ≤ i) × (i ≤ 8) }
@@ -105,25 +93,25 @@ fn place_formed(p: Plan, i: u8, place: Place, clock: u16) -> bool
     }
 }
 
+#[tactic(auto, using(laws::proofs::Tests::all_is, crate::proofs::Same::same_is), unfolding(rules::specs::Yard::letter_formed))]
 fn letter_formed(p: Plan, i: u8, letter: Option<Letter>, place: Place, clock: u16) -> bool
     ensures { result ≡ letter_formed p i letter place clock }
 {
+    let Some(letter) = letter else {
+        return true;
+    };
     match letter {
-        None => true,
-        Some(Letter::Request) => false,
-        Some(Letter::Cancel) => false,
-        Some(Letter::Approve) => is_participant(p, i) & same_place(place, Place::Entering) & (clock == 0),
-        Some(Letter::Deny) => is_participant(p, i) & same_place(place, Place::FallBack) & (clock == 0),
-        Some(Letter::Exit) => false,
+        Letter::Approve => is_participant(p, i) & (place == Place::Entering) & (clock == 0),
+        Letter::Deny => is_participant(p, i) & (place == Place::FallBack) & (clock == 0),
+        Letter::Request | Letter::Cancel | Letter::Exit => false,
     }
 }
 
+#[tactic(auto, using(laws::proofs::Tests::all_is, crate::proofs::Same::same_is))]
 fn is_fresh(d: Device) -> bool
     ensures { result ≡ is_fresh d }
 {
-    let place = d.place;
-    let letter = d.letter;
-    same_place(place, Place::FallBack) & (d.clock == 0) & no_letter(letter)
+    (d.place == Place::FallBack) & (d.clock == 0) & d.letter.is_none()
 }
 
 fn device_formed(p: Plan, i: u8, d: Device) -> bool
