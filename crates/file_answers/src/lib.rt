@@ -3,7 +3,6 @@
 #![tactic(auto)]
 
 ghost use Rattle.std.specs.Prelude.{◌≡◌};
-ghost use Rattle.rules.specs.Verdict.{first_of};
 ghost use Rattle.planfile_rules.specs.File.{empty_plan, answer_of};
 ghost use Rattle.planfile_rules.specs.Writing.{room_verdict, write_verdict};
 
@@ -11,6 +10,7 @@ use planfile_rules::ReadAnswer;
 use rules::{Plan, Slot, Verdict};
 use trailer::refusal;
 
+#[tactic(auto, unfolding(planfile_rules::specs::File::empty_plan, laws::specs::Lists::tabulate))]
 pub fn empty_plan() -> Plan
     ensures { result ≡ empty_plan }
 {
@@ -32,42 +32,30 @@ pub fn empty_plan() -> Plan
 }
 
 // A verdict beside the plan that was read, or beside an all-zero plan where it refuses.
-pub fn answer(v: Verdict, plan: Plan) -> ReadAnswer
-    ensures { result ≡ answer_of v plan }
+#[tactic(auto, unfolding(planfile_rules::specs::File::answer_of))]
+pub fn answer(verdict: Verdict, plan: Plan) -> ReadAnswer
+    ensures { result ≡ answer_of verdict plan }
 {
-    let empty = empty_plan();
-    match v {
-        Ok(()) => ReadAnswer { verdict: v, plan },
-        Err(_) => ReadAnswer {
-            verdict: v,
-            plan: empty,
-        },
-    }
+    let plan = match verdict {
+        Ok(()) => plan,
+        Err(_) => empty_plan(),
+    };
+    ReadAnswer { verdict, plan }
 }
 
 // 20 where a buffer of so many bytes is shorter than the file of n devices.
 fn room_verdict(n: u16, room: usize) -> Verdict
     ensures { result ≡ room_verdict n room }
 {
-    let devices = n as usize;
-    if room < 18 + 12 * devices {
+    if room < 18 + 12 * usize::from(n) {
         return refusal(20);
     }
     Ok(())
 }
 
-// The first of two verdicts that refuses.
-fn first_of(v: Verdict, w: Verdict) -> Verdict
-    ensures { result ≡ first_of v w }
-{
-    v?;
-    w
-}
-
+#[tactic(auto, unfolding(planfile_rules::specs::Writing::write_verdict))]
 pub fn write_verdict(p: Plan, room: usize) -> Verdict
     ensures { result ≡ write_verdict p room }
 {
-    let checked = plan::check(p);
-    let fits = room_verdict(p.N, room);
-    first_of(checked, fits)
+    plan::check(p).and(room_verdict(p.N, room))
 }
