@@ -1,11 +1,13 @@
 -- A device that has no letter, heeds no command and for which nothing falls due: only its clock moves.
-use Rattle.std.specs.Prelude.{Option}
+use Rattle.std.specs.Prelude.{Option, Some, None, is_some}
 use Prim.Native.Nat.{ℕ, ◌+◌, ◌<◌}
 use native.Mathlib.Omega.{arith}
 use mathlib.Core.Path.{◌≡◌, refl}
-use mathlib.Core.Bool.{true, false}
+use mathlib.Core.Bool.{true, false, not}
 use lib.Dec.{eqb}
 use borrow.Author.Tests.{ne_eqb, lt-ltb, eqb-true, eqb-false, leb-false, not-false}
+use denote.Enum.Bare.{sameb}
+use Rattle.rules.specs.contracts.Place.{the_type}
 use Rattle.laws.proofs.Tests.{case, or_none}
 use Rattle.times.specs.Times.{time_of}
 use Rattle.rules.specs.declared.Slot.{Slot}
@@ -18,9 +20,24 @@ use Rattle.rules.specs.Yard.{clock_at}
 use Rattle.rules.specs.Numbers.{place_number, letter_number}
 use Rattle.rules.specs.Tick.Step1.{stops_at, device_clock}
 use Rattle.rules.specs.Tick.Step2.{due, heed, heed_request, moved}
-use Rattle.pace.specs.declared.Pace.{Pace}
-use Rattle.pace.specs.declared.Pace.TheVariants as pace
 use Rattle.pace.specs.Pace.{clocked_by, stirring, pace_by}
+
+-- As the code asks: whether a letter waits, and whether a device is in Fall-Back.
+pub waits_is : (l : Option Letter) → is_some l ≡ not (eqb (letter_number l) 0)
+waits_is letter.none = refl
+waits_is letter.Request = refl
+waits_is letter.Cancel = refl
+waits_is letter.Approve = refl
+waits_is letter.Deny = refl
+waits_is letter.Exit = refl
+
+pub rests_is : (pl : Place) → sameb the_type pl place.FallBack ≡ eqb (place_number pl) 0
+rests_is place.FallBack = refl
+rests_is place.Requesting = refl
+rests_is place.Entering = refl
+rests_is place.Running = refl
+rests_is place.Exiting1 = refl
+rests_is place.Exiting2 = refl
 
 pub no_letter_lem : (l : Option Letter) → letter_number l ≡ 0 → l ≡ letter.none
 no_letter_lem letter.none e = refl
@@ -95,9 +112,9 @@ pub record Still (time command : ℕ) (d : Device) (clock : ℕ) : Type 0 where
 
 module _ (time command : ℕ) (d : Device) where
   -- What the device does leaves it still.
-  abbrev pub Paced : Pace → Type 0
-  Paced (pace.NothingDue clock) = Still time command d clock
-  Paced pace.Moves = Unit
+  abbrev pub Paced : Option ℕ → Type 0
+  Paced (Some clock) = Still time command d clock
+  Paced None = Unit
 
   still_resting :
       d.letter ≡ letter.none → place_number d.place ≡ 0 → (command ≡ 1 → ⊥)
@@ -128,6 +145,6 @@ module _ (time command : ℕ) (d : Device) where
       still_going (no_letter_lem d.letter (eqb-true _ _ (not-false _ none.0))) (eqb-false _ _ out) (eqb-false _ _ none.1)
       (leb-false _ _ early.1))
 
-  pub paced : {r : Pace} → r ≡ pace_by time command d → Paced r
+  pub paced : {r : Option ℕ} → r ≡ pace_by time command d → Paced r
   paced is =
       rw is (case (stirring time command d) (λ q. rw q tt) (λ q. rw q (unstirred q)))

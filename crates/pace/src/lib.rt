@@ -2,7 +2,7 @@
 // here has a `requires`. The run's loop in `yard` goes by these; step 1 of a device that moves is done there.
 #![tactic(auto)]
 
-ghost use Rattle.std.specs.Prelude.{◌≡◌, cond, ◌-◌, ◌≤◌};
+ghost use Rattle.std.specs.Prelude.{◌≡◌, cond, ◌-◌, ◌≤◌, IfSome};
 ghost use Rattle.laws.specs.Bits as bits;
 ghost use Rattle.rules.specs.Yard as rules;
 ghost use Rattle.rules.specs.Numbers.{base_index};
@@ -11,32 +11,23 @@ ghost use Rattle.rules.specs.Tick.Step2.{moved};
 ghost use Rattle.rules.specs.Tick.Step4.{arrived};
 ghost use Rattle.pace.specs.Pace.{stirring, pace_by, heard_of, went_up, reached_by};
 
-use numbers::widths::broad;
 use rules::{BaseMove, Device, Letter, Place, Slot};
-use vocabulary::{base_index, down_index, letter_number, place_number};
+use vocabulary::{base_index, down_index};
 
 // Bit k of a byte; from 8 on there is none.
+#[tactic(auto, using(crate::proofs::Bits::bit_none), unfolding(laws::specs::Bits::bit))]
 pub fn bit(b: u8, k: usize) -> bool
     ensures { result ≡ bits.bit b k }
 {
-    if k < 8 {
-        return (b >> k) % 2 == 1;
-    }
-    false
+    k < 8 && (b >> k) % 2 == 1
 }
 
 // Whether a device in this place is engaged.
+#[tactic(auto, unfolding(rules::specs::Yard::engaged))]
 pub fn engages(place: Place) -> bool
     ensures { result ≡ rules.engaged place }
 {
-    match place {
-        Place::FallBack => false,
-        Place::Requesting => false,
-        Place::Entering => false,
-        Place::Running => true,
-        Place::Exiting1 => true,
-        Place::Exiting2 => false,
-    }
+    matches!(place, Place::Running | Place::Exiting1)
 }
 
 pub fn stops_at(limit: u16, clock: u16) -> u16
@@ -45,44 +36,35 @@ pub fn stops_at(limit: u16, clock: u16) -> u16
     if clock < limit { clock + 1 } else { clock }
 }
 
-// What a device does in a tick: only its clock moves, to this, or more than that.
-#[derive(Clone, Copy)]
-pub enum Pace {
-    NothingDue(u16),
-    Moves,
-}
-
 // Whether more than its clock moves: a letter waits, a command is heeded (a request in Fall-Back, elsewhere a cancel), or the
 // clock comes to `time`.
-fn stirs(time: u16, command: u8, place: Place, letter: Option<Letter>, clock: u16) -> bool
-    ensures { result ≡ stirring time command (rules.at place clock letter) }
+#[tactic(auto, using(crate::proofs::Quiet::waits_is, crate::proofs::Quiet::rests_is), unfolding(crate::specs::Pace::stirring))]
+fn stirs(time: u16, command: u8, d: Device) -> bool
+    ensures { result ≡ stirring time command d }
 {
-    let waits = letter_number(letter) != 0;
-    if place_number(place) == 0 {
+    let waits = d.letter.is_some();
+    if d.place == Place::FallBack {
         return waits | (command == 1);
     }
-    waits | (command == 2) | (broad(clock) + 1 >= broad(time))
+    waits | (command == 2) | (u32::from(d.clock) + 1 >= u32::from(time))
 }
 
 // What a device does, if its clock runs to `time` in the place where it stands: in Fall-Back it stops there, elsewhere the
-// device is due. Most of the time only the clock moves.
-pub fn pace_by(time: u16, command: u8, place: Place, letter: Option<Letter>, clock: u16) -> Pace
-    ensures { result ≡ pace_by time command (rules.at place clock letter) }
+// device is due. Most of the time only the clock moves, to what is answered; none where more than that moves.
+pub fn pace_by(time: u16, command: u8, d: Device) -> Option<u16>
+    ensures { result ≡ pace_by time command d }
 {
-    if stirs(time, command, place, letter, clock) {
-        return Pace::Moves;
+    if stirs(time, command, d) {
+        return None;
     }
-    Pace::NothingDue(stops_at(time, clock))
+    Some(stops_at(time, d.clock))
 }
 
 // What the supervisor hears of a letter that went up.
 pub fn heard(lost: bool, letter: Option<Letter>) -> Option<Letter>
     ensures { result ≡ heard_of lost letter }
 {
-    if lost {
-        return None;
-    }
-    letter
+    if lost { None } else { letter }
 }
 
 // A device that has moved and whose letter has gone up, and what is heard of that letter.
@@ -105,61 +87,52 @@ pub fn goes_up(
     ensures { result ≡ went_up (bits.bit lost i) (moved q s initializer command d) }
 {
     let m = device::moved(q, s, initializer, command, d);
-    let letter = m.letter;
-    let device = device::writes(None, m);
-    let heard = heard(bit(lost, i), letter);
-    Risen { device, heard }
+    Risen {
+        device: device::writes(None, m),
+        heard: heard(bit(lost, i), m.letter),
+    }
 }
 
 // What is heard of the device that is listened to: of this one, where it is the one, else what was heard before.
 pub fn listen(here: bool, up: Risen, before: Option<Letter>) -> Option<Letter>
     ensures { result ≡ cond here up.heard before }
 {
-    let heard = up.heard;
-    if here {
-        return heard;
-    }
-    before
+    if here { up.heard } else { before }
 }
 
-// The device that the down letter reaches, of n: the one that it is for, unless it is lost; 0 for none.
-pub fn reached(n: u8, flags: u8, s: BaseMove) -> u8
-    ensures { (result ≡ reached_by n (bits.bit flags 1) s.down) × (result ≤ n) }
+// The device that the down letter reaches, of n: the one that it is for, unless it is lost.
+pub fn reached(n: u8, flags: u8, s: BaseMove) -> Option<u8>
+    ensures device { result ≡ reached_by n (bits.bit flags 1) s.down }
+    ensures in_the_yard { IfSome result (λ i. (1 ≤ i) × (i ≤ n)) }
 {
-    let down = s.down;
-    let i = down_index(down);
+    let i = down_index(s.down);
     // Most ticks send none.
     if i == 0 {
-        return 0;
+        return None;
     }
     if (i <= n) & !bit(flags, 1) {
-        return i;
+        return Some(i);
     }
-    0
+    None
 }
 
 // Where device i stands in an array; there is no device 0, and it stands for device 1.
 pub fn index_of(i: u8) -> usize
     ensures { result ≡ i - 1 }
 {
-    if i == 0 {
-        return 0;
-    }
-    (i - 1) as usize
+    usize::from(i.saturating_sub(1))
 }
 
 // Where the device stands that the supervisor's place is about.
 pub fn own_index(s: BaseMove) -> usize
     ensures { result ≡ base_index s.base - 1 }
 {
-    let base = s.base;
-    index_of(base_index(base))
+    index_of(base_index(s.base))
 }
 
 // Device i, which the down letter has reached.
 pub fn arrive(s: Slot, willing: u8, sent: BaseMove, i: u8, d: Device) -> Device
     ensures { result ≡ arrived s (bits.bit willing (i - 1)) sent.down i d }
 {
-    let down = sent.down;
-    device::arrived(s, bit(willing, index_of(i)), down, i, d)
+    device::arrived(s, bit(willing, index_of(i)), sent.down, i, d)
 }

@@ -69,6 +69,7 @@ pub fn record_at(roll: &[u8], k: usize) -> Record
 }
 
 // The bytes whose bits k and up are zero are those below this: all of them from k = 8 on.
+#[tactic(auto, using(crate::proofs::Bounds::is_bound))]
 fn bound(k: u16) -> u16
     ensures { Bound k result }
 {
