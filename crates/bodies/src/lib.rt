@@ -15,13 +15,11 @@ use rules::{Plan, Slot};
 use slots::{put_slot, slot_in};
 
 // Whether so many bytes have room for a body of n devices.
+#[tactic(auto, using(crate::proofs::Rooms::too_many, crate::proofs::Rooms::few))]
 fn has_room(n: usize, room: usize) -> bool
     ensures { result ≡ body_fits n room }
 {
-    if 8 < n {
-        return false;
-    }
-    8 + 12 * n <= room
+    n <= 8 && 8 + 12 * n <= room
 }
 
 // The slots of n devices; those above n stay all zero. Each is read from a part that is just its own: where the length of a
@@ -30,18 +28,15 @@ fn slots_in(body: &[u8], n: usize) -> [Slot; 8]
     requires { (n ≤ 8) × (8 + 12 * n ≤ length body.now) }
     ensures { result ≡ slots_in n body.now }
 {
-    let empty = empty_plan();
-    let mut slots = empty.slots;
-    let mut k: usize = 0;
-    while k < n {
+    let mut slots = empty_plan().slots;
+    for k in 0..n {
         let at = 8 + 12 * k;
-        let end = at + 12;
-        slots[k] = slot_in(&body[at..end]);
-        k += 1;
+        slots[k] = slot_in(&body[at..at + 12]);
     }
     slots
 }
 
+#[tactic(auto, unfolding(planfile_rules::specs::File::plan_in))]
 fn held_plan(body: &[u8], n: usize) -> Plan
     requires { (n ≤ 8) × (8 + 12 * n ≤ length body.now) }
     ensures { result ≡ plan_in n body.now }
@@ -56,6 +51,7 @@ fn held_plan(body: &[u8], n: usize) -> Plan
 }
 
 // The plan in a body of n devices, or an all-zero plan where these have no room in it. It is not checked.
+#[tactic(auto, using(crate::proofs::Rooms::enough), unfolding(planfile_rules::specs::File::plan_for))]
 pub fn plan_in(body: &[u8], n: usize) -> Plan
     ensures { result ≡ plan_for n body.now }
 {
@@ -70,12 +66,9 @@ fn put_slots(slots: [Slot; 8], n: usize, out: &mut [u8])
     requires { (n ≤ 8) × (8 + 12 * n ≤ length out.old) }
     ensures { Written out.old 8 (slots_bytes slots n) out.new (8 + 12 * n) × (length slots ≡ 8) }
 {
-    let mut j: usize = 0;
-    while j < n {
+    for j in 0..n {
         let at = 8 + 12 * j;
-        let end = at + 12;
-        put_slot(slots[j], &mut out[at..end]);
-        j += 1;
+        put_slot(slots[j], &mut out[at..at + 12]);
     }
 }
 
@@ -87,12 +80,12 @@ fn put_held(p: Plan, n: usize, out: &mut [u8])
     put_two(p.W, out, 2);
     put_two(p.B, out, 4);
     put_two(p.Q, out, 6);
-    let slots = p.slots;
-    put_slots(slots, n, out);
+    put_slots(p.slots, n, out);
 }
 
 // A body of n devices, at the front of a buffer; the answer is how many bytes were written, none where it has no room. That a
 // plan has eight slots is what its type says; whoever reads the body back wants to know it.
+#[tactic(auto, using(laws::proofs::Writes::nothing, crate::proofs::Rooms::enough), unfolding(planfile_rules::specs::Writing::body_written))]
 pub fn put_body(p: Plan, n: usize, out: &mut [u8]) -> usize
     ensures written { Written out.old 0 (body_written p n (length out.old)) out.new result }
     ensures eight_slots { length p.slots ≡ 8 }
@@ -108,6 +101,7 @@ pub const PLAN_SIZE: usize = 104;
 
 // The plan in so many bytes: a body with all eight slots, those above N included, as callers in other languages lend it. It is
 // not checked. Of another length, an all-zero plan, which the check refuses.
+#[tactic(auto, unfolding(planfile_rules::specs::File::whole_plan, planfile_rules::specs::File::plan_for))]
 pub fn whole_plan(bytes: &[u8]) -> Plan
     ensures { result ≡ whole_plan bytes.now }
 {
@@ -119,6 +113,7 @@ pub fn whole_plan(bytes: &[u8]) -> Plan
 
 // Those bytes, at the front of a buffer; the answer is how many bytes were written, none in a shorter buffer. Later bytes
 // keep their value.
+#[tactic(auto, using(laws::proofs::Writes::at_front, crate::proofs::Rooms::within), unfolding(planfile_rules::specs::Writing::plan_written, planfile_rules::specs::Writing::body_written))]
 pub fn put_whole_plan(p: Plan, out: &mut [u8]) -> usize
     ensures value { result ≡ length (plan_written p (length out.old)) }
     ensures out_after { out.new ≡ plan_written p (length out.old) ++ drop result out.old }

@@ -30,6 +30,7 @@ pub fn word(text: &[u8], out: &mut [u8], at: usize) -> usize
 }
 
 // A number in decimal, with no zero in front. It calls itself for the digits before the last, at most 20 deep.
+#[tactic(auto, using(text_rules::proofs::Decimals::one_digit))]
 pub fn number(n: usize, out: &mut [u8], at: usize) -> usize
     ensures { Laid out.old at (decimal n) out.new result }
 {

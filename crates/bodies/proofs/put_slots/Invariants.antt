@@ -1,6 +1,4 @@
-use Prim.Native.Nat.{◌+◌, ◌-◌, ◌*◌, ◌≤◌}
-use mathlib.Core.Path.{◌≡◌}
-use lib.ListN.{length, get_or}
+use Rattle.std.proofs.Common.{◌+◌, ◌-◌, ◌*◌, get_or}
 use Rattle.laws.specs.Lists.{joined}
 use Rattle.laws.specs.Written.{Written}
 use Rattle.rules.specs.Plan.{empty_slot}
@@ -9,9 +7,4 @@ use Rattle.bodies.proofs.put_slots.Given as goal
 
 abbrev pub invariant-loop-j : goal.invariant-loop-j
 invariant-loop-j l =
-    (l.j ≤ l.n)
-    × Written l.initial.out 8 (joined (λ i. slot_bytes (get_or l.slots (i - 1) empty_slot)) l.j) l.out (8 + 12 * l.j)
-    × (length l.out ≡ length l.initial.out)
-
-abbrev pub decreases-loop-j : goal.decreases-loop-j
-decreases-loop-j l = l.n - l.j
+    Written l.initial.out 8 (joined (λ i. slot_bytes (get_or l.slots (i - 1) empty_slot)) l.j) l.out (8 + 12 * l.j)
