@@ -1,6 +1,8 @@
 // Places, letters, bases, down letters and verdicts by number: the vocabulary that comparisons, bytes and text share. A number
 // that stands for nothing is read as the first of its kind; callers that must tell have looked before. No function here has
 // a `requires`.
+// Stays: functions and not `From`: the types stand in `rules`, and such an impl must stand beside its type; nor `TryFrom`, since
+// what their contracts promise, and the theorem `VocabularyBack`, is an answer for every number.
 #![tactic(auto)]
 
 ghost use Rattle.std.specs.Prelude.{◌≡◌};
@@ -22,25 +24,18 @@ pub fn place_number(place: Place) -> u8
     }
 }
 
+#[tactic(auto, unfolding(rules::specs::Numbers::place_of))]
 pub fn place_of(number: u8) -> Place
     ensures { result ≡ place_of number }
 {
-    if number == 1 {
-        return Place::Requesting;
+    match number {
+        1 => Place::Requesting,
+        2 => Place::Entering,
+        3 => Place::Running,
+        4 => Place::Exiting1,
+        5 => Place::Exiting2,
+        _ => Place::FallBack,
     }
-    if number == 2 {
-        return Place::Entering;
-    }
-    if number == 3 {
-        return Place::Running;
-    }
-    if number == 4 {
-        return Place::Exiting1;
-    }
-    if number == 5 {
-        return Place::Exiting2;
-    }
-    Place::FallBack
 }
 
 pub fn letter_number(letter: Option<Letter>) -> u8
@@ -56,25 +51,18 @@ pub fn letter_number(letter: Option<Letter>) -> u8
     }
 }
 
+#[tactic(auto, unfolding(rules::specs::Numbers::letter_of))]
 pub fn letter_of(number: u8) -> Option<Letter>
     ensures { result ≡ letter_of number }
 {
-    if number == 1 {
-        return Some(Letter::Request);
+    match number {
+        1 => Some(Letter::Request),
+        2 => Some(Letter::Cancel),
+        3 => Some(Letter::Approve),
+        4 => Some(Letter::Deny),
+        5 => Some(Letter::Exit),
+        _ => None,
     }
-    if number == 2 {
-        return Some(Letter::Cancel);
-    }
-    if number == 3 {
-        return Some(Letter::Approve);
-    }
-    if number == 4 {
-        return Some(Letter::Deny);
-    }
-    if number == 5 {
-        return Some(Letter::Exit);
-    }
-    None
 }
 
 pub fn base_number(base: Base) -> u8
@@ -94,25 +82,20 @@ pub fn base_index(base: Base) -> u8
 {
     match base {
         Base::FallBack => 0,
-        Base::Lease(i) => i,
-        Base::Cancel(i) => i,
-        Base::Abort(i) => i,
+        Base::Lease(i) | Base::Cancel(i) | Base::Abort(i) => i,
     }
 }
 
+#[tactic(auto, unfolding(rules::specs::Numbers::base_of))]
 pub fn base_of(number: u8, i: u8) -> Base
     ensures { result ≡ base_of number i }
 {
-    if number == 1 {
-        return Base::Lease(i);
+    match number {
+        1 => Base::Lease(i),
+        2 => Base::Cancel(i),
+        3 => Base::Abort(i),
+        _ => Base::FallBack,
     }
-    if number == 2 {
-        return Base::Cancel(i);
-    }
-    if number == 3 {
-        return Base::Abort(i);
-    }
-    Base::FallBack
 }
 
 pub fn down_number(l: Option<Down>) -> u8
@@ -133,10 +116,7 @@ pub fn down_index(l: Option<Down>) -> u8
 {
     match l {
         None => 0,
-        Some(Down::LeaseReq(i)) => i,
-        Some(Down::Grant(i)) => i,
-        Some(Down::Cancel(i)) => i,
-        Some(Down::Abort(i)) => i,
+        Some(Down::LeaseReq(i) | Down::Grant(i) | Down::Cancel(i) | Down::Abort(i)) => i,
     }
 }
 
