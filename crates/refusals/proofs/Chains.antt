@@ -1,12 +1,9 @@
 -- A tick and a roll are refused as their plan and state are, and only then for what is to be done.
-use Prim.Native.Nat.{ℕ}
-use mathlib.Core.Path.{◌≡◌}
-use mathlib.Core.List.{List, [], ◌∷◌}
+use Rattle.std.proofs.Common.{ℕ, ◌≡◌, List, [], ◌∷◌}
 use Rattle.rules.specs.declared.Plan.{Plan}
 use Rattle.rules.specs.declared.Yard.{Yard}
 use Rattle.rules.specs.declared.Record.{Record}
-use Rattle.rules.specs.Verdict.{Verdict}
-use Rattle.rules.specs.Verdict.{first_of, first_refusal}
+use Rattle.rules.specs.Verdict.{Verdict, first_of, first_refusal}
 use Rattle.rules.specs.Table.{plan_verdict}
 use Rattle.rules.specs.Yard.{state_verdict}
 use Rattle.rules.specs.Tick.{tick_verdict}

@@ -28,6 +28,7 @@ fn state_verdict(p: Plan, y: Yard) -> Verdict
 }
 
 // Is this tick refused? Plan (1 to 9), state (11 at 0), record (10 at 1).
+#[tactic(auto, using(crate::proofs::Chains::tick_after), unfolding(rules::specs::Verdict::first_refusal, rules::specs::Tick::Input::record_verdict, rules::specs::Tick::tick_verdict))]
 pub fn tick_verdict(p: Plan, y: Yard, r: Record) -> Verdict
     ensures { result ≡ tick_verdict p y r }
 {
@@ -65,6 +66,7 @@ pub fn roll_verdict(p: Plan, y: Yard, roll: &[u8]) -> Verdict
 }
 
 // Is this run refused? As its roll is, then 13 at 0 where `room`, the buffer's length, is too little for the ticks to do.
+#[tactic(auto, unfolding(rules::specs::Verdict::first_refusal))]
 pub fn run_verdict(p: Plan, y: Yard, roll: &[u8], ticks: usize, room: usize) -> Verdict
     ensures { result ≡ first_refusal (roll_verdict p y roll.now ∷ refused_if (ltb room ticks) 13 0 ∷ []) }
 {
