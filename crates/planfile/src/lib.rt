@@ -5,16 +5,17 @@
 // file from wherever the trailer says, handed on to be read.
 #![tactic(auto)]
 
-ghost use Rattle.std.specs.Prelude.{◌≡◌, ◌+◌, ◌*◌, ◌≤◌, length, take};
+ghost use Rattle.std.specs.Prelude.{◌≡◌, ◌+◌, ◌*◌, ◌≤◌, length, take, Ok};
+ghost use Rattle.std.specs.Result.{result_and};
 ghost use Rattle.rules.specs.Verdict as verdict;
-ghost use Rattle.planfile_rules.specs.File.{plan_in, body_verdict, answer_of, read_answer, body_span};
+ghost use Rattle.planfile_rules.specs.File.{trailer_of, trailer_verdict, plan_in, body_verdict, answer_of, read_answer, body_span};
 ghost use Rattle.planfile_rules.specs.Writing.{file_bytes, write_answer, write_buffer, ReadAs, WithoutNotes};
 
 use bodies::{plan_in, put_body};
 use file_answers::{answer, empty_plan, write_verdict};
 use numbers::read::two_at;
 use planfile_rules::{ReadAnswer, Span, WriteAnswer};
-use rules::Plan;
+use rules::{Plan, Refusal};
 use trailer::{devices_for, judge, put_trailer, refusal, trailer_for, trailer_of};
 
 // The verdict on a body that has room for n devices, beside its plan.
@@ -27,8 +28,22 @@ fn read_body(body: &[u8], n: u16) -> ReadAnswer
     if named != n {
         return answer(refusal(19), empty_plan());
     }
-    let plan = plan_in(body, n as usize);
+    let plan = plan_in(body, usize::from(n));
     answer(plan::check(plan), plan)
+}
+
+// Where a file's body lies, if its trailer is taken.
+#[tactic(auto, using(planfile_rules::proofs::Files::starts_within, planfile_rules::proofs::Files::taken_span))]
+fn body_place(file: &[u8]) -> Result<Span, Refusal>
+    ensures { result ≡ result_and (trailer_verdict (length file.now) (trailer_of file.now)) (Ok (body_span file.now)) }
+{
+    let t = trailer_of(file);
+    judge(file.len(), t)?;
+    let start = file.len() - t.back as usize;
+    Ok(Span {
+        start,
+        len: usize::from(t.size),
+    })
 }
 
 // The verdict on a file beside the plan that it holds. A refused file gives an all-zero plan. Writing what was read from a
@@ -37,35 +52,17 @@ pub fn read(file: &[u8]) -> ReadAnswer
     ensures value { result ≡ read_answer file.now }
     ensures written_back { result.verdict ≡ verdict.Accepted → WithoutNotes file.now → file_bytes result.plan ≡ file.now }
 {
-    let len = file.len();
-    let t = trailer_of(file);
-    let v = judge(len, t);
-    let Ok(()) = v else {
-        return answer(v, empty_plan());
-    };
-    let size = t.size as usize;
-    let back = t.back as usize;
-    let start = len - back;
-    let end = start + size;
-    read_body(&file[start..end], devices_for(t.size))
+    match body_place(file) {
+        Ok(Span { start, len }) => read_body(&file[start..start + len], devices_for(len as u16)),
+        Err(refused) => answer(Err(refused), empty_plan()),
+    }
 }
 
 // Where a file's body lies, for whoever wants to show it; nothing at 0 where its trailer is not taken.
 pub fn body_span(file: &[u8]) -> Span
     ensures { result ≡ body_span file.now }
 {
-    let len = file.len();
-    let t = trailer_of(file);
-    let v = judge(len, t);
-    let Ok(()) = v else {
-        return Span { start: 0, len: 0 };
-    };
-    let size = t.size as usize;
-    let back = t.back as usize;
-    Span {
-        start: len - back,
-        len: size,
-    }
+    body_place(file).unwrap_or(Span { start: 0, len: 0 })
 }
 
 // Writes an accepted plan as a file, at the front of a buffer: body first, trailer straight after it, no notes. The answer
@@ -83,7 +80,7 @@ pub fn write(p: Plan, file: &mut [u8]) -> WriteAnswer
             length: 0,
         };
     };
-    let n = p.N as usize;
+    let n = usize::from(p.N);
     let size = put_body(p, n, file);
     put_trailer(trailer_for(p.N as u8), file, size);
     WriteAnswer {

@@ -21,7 +21,7 @@ use Rattle.planfile_rules.specs.Theorems.{TrailerHolds, ReadAccepts, RefusedEmpt
 use Rattle.planfile_rules.proofs.Trailers.{devices_back, trailer_holds}
 
 -- The part of a list from a start to an end, as code takes it.
-abbrev part_of : List ℕ → ℕ → ℕ → List ℕ
+abbrev pub part_of : List ℕ → ℕ → ℕ → List ℕ
 part_of l start end = take (end - start) (drop start l)
 
 -- The trailer t is the file's, and v is the verdict on it.

@@ -16,9 +16,9 @@ use Rattle.planfile.proofs.write.Goals as goal
 
 -- The body has been written whole.
 module _ (p : Plan) (buffer : List ℕ) (v : Verdict) (said : v ≡ write_verdict p (length buffer)) (told : v ≡ Accepted) where
-  whole_body : (x : List ℕ) (end : ℕ) → Written buffer 0 (body_written p p.N (length buffer)) x end → Written buffer 0 (body_bytes p p.N) x end
-  whole_body x end w =
-      as_text _ w (is_written p.N (length buffer) (few_devices p buffer v said told) (omega (arith, has_room p buffer v said told)) p)
+  whole_body : {n : ℕ} → n ≡ p.N → (x : List ℕ) (end : ℕ) → Written buffer 0 (body_written p n (length buffer)) x end → Written buffer 0 (body_bytes p p.N) x end
+  whole_body e x end w =
+      as_text _ (rw e at w) (is_written p.N (length buffer) (few_devices p buffer v said told) (omega (arith, has_room p buffer v said told)) p)
 
 pub returns-in_default : goal.returns-in_default
 returns-in_default c =
@@ -30,7 +30,7 @@ returns-in_default c =
 pub overflow_cast-p : goal.overflow_cast-p
 overflow_cast-p c =
     let args = c.args in
-    omega (arith, few_devices args.p args.file.now _ c.write_verdict-v.ensures c.in-Accepted.is)
+    omega (arith, few_devices args.p args.file.now _ c.write_verdict-v.ensures c.in-Ok.is)
 
 pub overflow_add-result : goal.overflow_add-result
 overflow_add-result c =
@@ -41,9 +41,9 @@ unfolding file_bytes
 returns c =
     let args = c.args in
     let said = c.write_verdict-v.ensures in
-    let told = c.in-Accepted.is in
+    let told = c.in-Ok.is in
     let body = c.put_body-size.ensures in
-    let whole = whole_body args.p args.file.now _ said told _ _ body.written in
+    let whole = whole_body args.p args.file.now _ said told c.from-n.ensures _ _ body.written in
     let trailer = rw c.trailer_for.ensures at c.put_trailer.ensures in
     let all = all_written args.p args.file.now _ said told body.eight_slots _ _ (and_then whole trailer) in
     record { value = all.0; file_after = all.1.0; read_as = all.1.1 }
