@@ -1,9 +1,5 @@
 -- What stands in the row of a plan's times, and how it is written.
-use Prim.Native.Nat.{ℕ, ◌+◌, ◌-◌, ◌*◌, ◌/◌, ◌%◌, ◌<◌}
-use native.Mathlib.Omega.{arith}
-use mathlib.Core.Path.{◌≡◌, refl, sym, ◌∙◌, ap}
-use mathlib.Core.List.{List}
-use lib.ListN.{get_or, set}
+use Rattle.std.proofs.Common.{ℕ, ◌+◌, ◌-◌, ◌*◌, ◌/◌, ◌%◌, ◌<◌, arith, ◌≡◌, refl, sym, ◌∙◌, ap, List, get_or, set}
 use Rattle.laws.specs.Lists.{swept}
 use Rattle.laws.proofs.Lists.{tabulate_at, swept_next}
 use Rattle.rules.specs.declared.Slot.{Slot}

@@ -12,9 +12,7 @@ pub fn row_of(q: u16, slots: [Slot; 8]) -> [u16; 48]
     ensures { result ≡ row_of q slots }
 {
     let mut row = [0u16; 48];
-    let mut k: usize = 0;
-    while k < 8 {
-        let s = slots[k];
+    for (k, s) in slots.iter().enumerate() {
         let at = 6 * k;
         row[at] = s.F;
         row[at + 1] = q;
@@ -22,7 +20,6 @@ pub fn row_of(q: u16, slots: [Slot; 8]) -> [u16; 48]
         row[at + 3] = s.R;
         row[at + 4] = s.X;
         row[at + 5] = s.X;
-        k += 1;
     }
     row
 }
