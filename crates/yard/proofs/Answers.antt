@@ -1,5 +1,5 @@
 -- What an answer that is no refusal tells, and what the answers then are.
-use Rattle.std.specs.Prelude.{Option}
+use Rattle.std.specs.Prelude.{Option, Err}
 use Prim.Native.Nat.{ℕ, ◌≤◌}
 use mathlib.Core.Path.{◌≡◌, sym, ◌∙◌}
 use mathlib.Core.Bool.{true}
@@ -13,7 +13,8 @@ use Rattle.rules.specs.declared.Record.{Record}
 use Rattle.rules.specs.declared.Down.{Down}
 use Rattle.rules.specs.Downs as down
 use Rattle.rules.specs.Verdict.{Verdict}
-use Rattle.rules.specs.Verdict.{Accepted, Refused}
+use Rattle.rules.specs.Verdict.{Accepted}
+use Rattle.rules.specs.declared.Refusal.{Refusal}
 use Rattle.rules.specs.declared.RunAnswer.{RunAnswer}
 use Rattle.rules.specs.Verdict.{refused_if, first_refusal}
 use Rattle.rules.specs.Table.{plan_verdict}
@@ -40,10 +41,10 @@ module _ (p : Plan) (y : Yard) (r : Record) (taken : tick_verdict p y r ≡ Acce
 
 module _ (p : Plan) (y : Yard) (r : Record) (v : Verdict) (v_is : v ≡ tick_verdict p y r) where
   pub tick_refused :
-      (k i : ℕ) → v ≡ Refused k i → record { verdict = v; yard = y; down = down.none } ≡ tick_answer p y r
+      (why : Refusal) → v ≡ Err why → record { verdict = v; yard = y; down = down.none } ≡ tick_answer p y r
   unfolding tick_answer
-  tick_refused k i e =
-      let q : tick_verdict p y r ≡ Refused k i = sym v_is ∙ e in
+  tick_refused why e =
+      let q : tick_verdict p y r ≡ Err why = sym v_is ∙ e in
       rw (e, q)
 
   -- The single tick goes through the loop with a roll of its one record.
@@ -68,12 +69,12 @@ module _ (p : Plan) (y : Yard) (roll : List ℕ) (budget : ℕ) (buffer : List �
 
   module _ (v : Verdict) (v_is : v ≡ refused) where
     pub run_refused :
-        (k i : ℕ) → v ≡ Refused k i
+        (why : Refusal) → v ≡ Err why
         → (record { verdict = v; yard = y; ticks = 0 } ≡ run_answer p y roll budget buffer)
         × (buffer ≡ run_buffer p y roll budget buffer)
     unfolding run_answer run_buffer after engaged_bytes
-    run_refused k i e =
-        let q : run_verdict p y roll budget buffer ≡ Refused k i = sym same_verdict ∙ sym v_is ∙ e in
+    run_refused why e =
+        let q : run_verdict p y roll budget buffer ≡ Err why = sym same_verdict ∙ sym v_is ∙ e in
         (rw (e, q), rw q)
 
     pub run_taken : v ≡ Accepted → (plan_verdict p ≡ Accepted) × (well_formed p y ≡ true) × (ticks ≤ length buffer)

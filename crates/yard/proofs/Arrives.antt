@@ -1,15 +1,15 @@
 -- Step 4 reaches one device or none, and moves none into or out of being engaged.
-use Rattle.std.specs.Prelude.{Option}
+use Rattle.std.specs.Prelude.{Option, Some, None}
 use Prim.Native.Nat.{ℕ, ◌-◌, ◌≤◌}
 use native.Mathlib.Omega.{arith}
 use mathlib.Core.Path.{◌≡◌, refl, sym, ◌∙◌, ap}
-use mathlib.Core.Bool.{Bool, true}
+use mathlib.Core.Bool.{Bool, true, false, not, ◌&&◌}
 use mathlib.Core.List.{List}
 use lib.Dec.{eqb, leb}
 use lib.ListN.{length, set}
-use borrow.Author.Tests.{le-leb, leb-true, ne_eqb}
+use borrow.Author.Tests.{le-leb, leb-true, ne_eqb, eqb-false, not-true}
 use Rattle.laws.specs.Bits.{bit}
-use Rattle.laws.proofs.Tests.{case}
+use Rattle.laws.proofs.Tests.{case, and_hold}
 use Rattle.rules.specs.Numbers.{down_index}
 use Rattle.rules.specs.declared.Slot.{Slot}
 use Rattle.rules.specs.declared.Place.{Place}
@@ -35,15 +35,35 @@ arrived_other s willing (down.Grant k) i d other = rw (ne_eqb i k other)
 arrived_other s willing (down.Cancel k) i d other = rw (ne_eqb i k other)
 arrived_other s willing (down.Abort k) i d other = rw (ne_eqb i k other)
 
+-- Where it reaches a device.
+record Reached (n : ℕ) (lost : Bool) (l : Option Down) (i : ℕ) : Type 0 where
+  pub some : 1 ≤ i
+  pub in_yard : i ≤ n
+  pub kept : lost ≡ false
+
+reached_is : (n : ℕ) (lost : Bool) (l : Option Down) (i : ℕ) → Some i ≡ reached_by n lost l → Reached n lost l i
+reached_is n lost l i e =
+    case (eqb (down_index l) 0)
+    (λ q. let f : Some i ≡ None = rw q at e in cc)
+    (λ some.
+    case (leb (down_index l) n && not lost)
+    (λ q.
+    let f : Some i ≡ Some (down_index l) = rw (some, q) at e in
+    let for : i ≡ down_index l = cc in
+    let both = and_hold _ _ q in
+    let out = eqb-false _ _ some in
+    let high : down_index l ≤ n = leb-true _ _ both.0 in
+    record { some = omega arith; in_yard = omega arith; kept = not-true _ both.1 })
+    (λ q. let f : Some i ≡ None = rw (some, q) at e in cc))
+
 module _
-    (slots : List Slot) (lost : Bool) (willing : ℕ) (l : Option Down) (n i : ℕ) (ds : List Device)
-    (eight : length ds ≡ 8) (i_is : i ≡ reached_by n lost l)
+    (slots : List Slot) (lost : Bool) (willing : ℕ) (l : Option Down) (n : ℕ) (ds : List Device) (eight : length ds ≡ 8)
   where
     abbrev delivers : ℕ → Device → Device
     delivers = delivered_by slots lost willing l
 
     -- A device that the letter is not for, or that it does not reach.
-    passes : (j : ℕ) → 1 ≤ j → j ≤ n → (j ≡ i → ⊥) → delivers j (device_at ds j) ≡ device_at ds j
+    passes : (j : ℕ) → 1 ≤ j → j ≤ n → (reached_by n lost l ≡ Some j → ⊥) → delivers j (device_at ds j) ≡ device_at ds j
     passes j low high other =
         case lost (λ q. rw q)
         (λ q.
@@ -51,27 +71,20 @@ module _
         (arrived_other (slot_at slots j) (bit willing (j - 1)) l j (device_at ds j)
         (λ for.
         let reaches : leb (down_index l) n ≡ true = le-leb (down_index l) n (rw for at high) in
-        other (for ∙ sym (rw (q, reaches) at i_is)))))
+        let some : eqb (down_index l) 0 ≡ false = ne_eqb (down_index l) 0 (λ z. omega arith) in
+        other (rw (some, reaches, q) (ap (λ (k : ℕ). Some k) (sym for))))))
 
-    pub unreached : i ≡ 0 → ds ≡ sweep n delivers ds
-    unreached none = sweep_still delivers n ds eight (λ j low high. passes j low high (λ same. omega arith))
+    pub unreached : None ≡ reached_by n lost l → ds ≡ sweep n delivers ds
+    unreached none = sweep_still delivers n ds eight (λ j low high. passes j low high (λ e. let same : None ≡ Some j = none ∙ e in cc))
 
     pub reaches :
-        (x : Device) → (i ≡ 0 → ⊥) → n ≤ 8
+        (i : ℕ) (x : Device) → Some i ≡ reached_by n lost l → n ≤ 8
         → x ≡ arrived (slot_at slots i) (bit willing (i - 1)) l i (device_at ds i)
         → set ds (i - 1) x ≡ sweep n delivers ds
-    reaches x some few x_is =
-        case lost (λ q. absurd (some (i_is ∙ lost_none q)))
-        (λ q.
-        case (leb (down_index l) n)
-        (λ in_n.
-        let for : i ≡ down_index l = rw (q, in_n) at i_is in
-        let high : i ≤ n = rw (sym for) at (leb-true (down_index l) n in_n) in
-        sweep_one delivers n ds eight i x (omega arith) high (omega arith) (x_is ∙ rw q) passes)
-        (λ out. absurd (some (i_is ∙ rw out))))
-      where
-        lost_none : lost ≡ true → reached_by n lost l ≡ 0
-        lost_none q = rw q (case (leb (down_index l) n) (λ e. rw e) (λ e. rw e))
+    reaches i x i_is few x_is =
+        let r = reached_is n lost l i i_is in
+        sweep_one delivers n ds eight i x r.some r.in_yard (omega (arith, r.in_yard)) (rw r.kept x_is)
+        (λ j low high other. passes j low high (λ e. other (let same : Some j ≡ Some i = sym e ∙ sym i_is in cc)))
 
 lease_req : (s : Slot) (willing : Bool) (pl : Place) (c : ℕ) (l : Option Letter) → engaged (hear_lease_req s willing pl (at pl c l)).place ≡ engaged pl
 unfolding engaged

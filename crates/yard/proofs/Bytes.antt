@@ -2,7 +2,7 @@
 use Prim.Native.Nat.{ℕ, zero, suc, ◌+◌, ◌^◌, ◌≤◌, ◌<◌}
 use native.Mathlib.Omega.{arith}
 use native.Mathlib.Numerals.{add-one}
-use mathlib.Core.Path.{◌≡◌, sym, ap}
+use mathlib.Core.Path.{◌≡◌, refl, sym, ap}
 use mathlib.Core.Bool.{Bool, cond}
 use mathlib.Core.List.{List}
 use lib.Dec.{eqb}
@@ -72,7 +72,11 @@ module _ (n k : ℕ) (ds : List Device) (low : k < n) where
     byte_fits x few =
         omega (arith, byte_set x, byte_small (set ds k x) n few)
 
--- Put together, one bit further.
+-- Put together, from none on, one bit further.
+pub byte_none : (ds : List Device) → byte_of 0 ds ≡ 0
+unfolding of_bits
+byte_none ds = refl
+
 pub byte_next :
     (ds : List Device) (k : ℕ) → byte_of (k + 1) ds ≡ byte_of k ds + bit_of k (get_or ds k fresh_device)
 unfolding of_bits

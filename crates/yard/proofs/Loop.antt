@@ -1,6 +1,6 @@
 -- What the loop over ticks knows before each, and one tick more.
 use Rattle.std.specs.Prelude.{Option}
-use Prim.Native.Nat.{ℕ, ◌+◌, ◌≤◌, ◌<◌}
+use Prim.Native.Nat.{ℕ, ◌+◌, ◌<◌}
 use native.Mathlib.Omega.{arith}
 use native.Mathlib.Numerals.{add-one}
 use mathlib.Core.Path.{◌≡◌, refl, ◌∙◌}
@@ -25,10 +25,9 @@ use Rattle.yard.specs.Sent.{last_down}
 use Rattle.yard.specs.Engaged.{byte_of}
 use Rattle.yard.proofs.Ready.{Ready, ready}
 
-module _ (p : Plan) (y : Yard) (roll buffer : List ℕ) (ticks last : ℕ) where
+module _ (p : Plan) (y : Yard) (roll buffer : List ℕ) (last : ℕ) where
   -- k ticks are done, and the initializer stands at `last`.
   pub record Rolled (k : ℕ) (now : Yard) (l : Option Down) (written : List ℕ) (byte : ℕ) : Type 0 where
-    pub within : k ≤ ticks
     pub yard : now ≡ after p y roll k
     pub down : l ≡ last_down p y roll k
     pub bytes : written ≡ engaged_bytes p y roll k ++ drop k buffer
@@ -47,7 +46,6 @@ module _ (p : Plan) (y : Yard) (roll buffer : List ℕ) (ticks last : ℕ) where
         → Rolled 0 y down.none buffer byte
     unfolding after last_down engaged_bytes
     starts byte eight initializer byte_is = record {
-      within = omega arith;
       yard = refl;
       down = refl;
       bytes = refl;
@@ -60,14 +58,13 @@ module _ (p : Plan) (y : Yard) (roll buffer : List ℕ) (ticks last : ℕ) where
 
     pub rolls :
         (k : ℕ) (now next : Yard) (l m : Option Down) (written : List ℕ) (b byte : ℕ) (r : Record)
-        → Rolled k now l written b → k < ticks → ticks ≤ length buffer → r ≡ record_at roll k
+        → Rolled k now l written b → k < length buffer → r ≡ record_at roll k
         → next ≡ tick p now r → m ≡ (sent p now r).down → byte ≡ byte_of p.N next.devices
         → Rolled (k + 1) next m (set written k byte) byte
     unfolding after last_down engaged_bytes engaged_byte device tick step4 each_device
-    rolls k now next l m written b byte r inv more fits r_is next_is m_is byte_is =
+    rolls k now next l m written b byte r inv fits r_is next_is m_is byte_is =
         let yard : next ≡ after p y roll (k + 1) = next_is ∙ rw (inv.yard, r_is, add-one k) in
         record {
-          within = omega arith;
           yard = yard;
           down = m_is ∙ rw (inv.yard, r_is, add-one k);
           bytes =

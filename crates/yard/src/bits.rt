@@ -10,23 +10,18 @@ fn engaged_bit(k: usize, d: Device) -> u8
     requires { k < 8 }
     ensures { result ≡ bit_of k d }
 {
-    let place = d.place;
-    if engages(place) {
-        return 1u8 << k;
-    }
-    0
+    if engages(d.place) { 1 << k } else { 0 }
 }
 
 // The byte of the first n devices.
+#[tactic(auto, using(crate::proofs::Bytes::byte_none, crate::proofs::Bytes::byte_next))]
 pub(crate) fn engaged_byte(n: usize, devices: [Device; 8]) -> u8
     requires { n ≤ 8 }
     ensures { result ≡ byte_of n devices }
 {
-    let mut byte: u8 = 0;
-    let mut k: usize = 0;
-    while k < n {
+    let mut byte = 0;
+    for k in 0..n {
         byte += engaged_bit(k, devices[k]);
-        k += 1;
     }
     byte
 }

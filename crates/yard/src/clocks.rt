@@ -13,9 +13,8 @@ pub(crate) fn place_clock(t: Terms, base: Base, clock: u16) -> u16
 {
     match base {
         Base::FallBack => stops_at(t.B, clock),
-        Base::Lease(i) => { if i < t.N { clock + 1 } else { clock } }
-        Base::Cancel(_) => clock,
-        Base::Abort(_) => clock,
+        Base::Lease(i) if i < t.N => clock + 1,
+        Base::Lease(_) | Base::Cancel(_) | Base::Abort(_) => clock,
     }
 }
 
@@ -25,9 +24,7 @@ pub(crate) fn lease_clock(base: Base, lease: u32) -> u32
 {
     match base {
         Base::FallBack => lease,
-        Base::Lease(_) => lease + 1,
-        Base::Cancel(_) => lease + 1,
-        Base::Abort(_) => lease + 1,
+        Base::Lease(_) | Base::Cancel(_) | Base::Abort(_) => lease + 1,
     }
 }
 
@@ -37,11 +34,7 @@ fn device_clock(s: Slot, place: Place, clock: u16) -> u16
 {
     match place {
         Place::FallBack => stops_at(s.F, clock),
-        Place::Requesting => clock + 1,
-        Place::Entering => clock + 1,
-        Place::Running => clock + 1,
-        Place::Exiting1 => clock + 1,
-        Place::Exiting2 => clock + 1,
+        _ => clock + 1,
     }
 }
 
@@ -49,6 +42,5 @@ pub(crate) fn clocked(s: Slot, d: Device) -> Device
     requires { d.clock ≤ 36000 }
     ensures { result ≡ clocked_by s d }
 {
-    let place = d.place;
-    device::clock_at(device_clock(s, place, d.clock), d)
+    device::clock_at(device_clock(s, d.place, d.clock), d)
 }

@@ -22,7 +22,7 @@ use crate::bits::{engaged_byte, rebit};
 use crate::clocks::{lease_clock, place_clock};
 use crate::rising::{pace_of, rise};
 use lease::lease_length;
-use pace::{Pace, arrive, bit, index_of, listen, own_index, reached};
+use pace::{arrive, bit, index_of, listen, own_index, reached};
 use rolls::record_at;
 use rules::{BaseMove, Device, Down, Letter, Plan, Terms, Yard};
 use times::row_of;
@@ -40,14 +40,19 @@ fn terms_of(p: Plan) -> Terms
 }
 
 // The supervisor's clocks and its move, by what it hears of the initializer and of the device that its place is about.
-fn supervise(t: Terms, flags: u8, last: Option<Letter>, own: Option<Letter>, s: BaseMove) -> BaseMove
+fn supervise(
+    t: Terms,
+    flags: u8,
+    last: Option<Letter>,
+    own: Option<Letter>,
+    s: BaseMove,
+) -> BaseMove
     requires { (s.clock ≤ 36000) × (s.lease ≤ 108000) }
     ensures { result ≡ base_move t (bits.bit flags 0) last own s.base (place_clock t s.base s.clock) (lease_clock s.base s.lease) }
 {
-    let base = s.base;
-    let clock = place_clock(t, base, s.clock);
-    let lease = lease_clock(base, s.lease);
-    base::base_move(t, bit(flags, 0), last, own, base, clock, lease)
+    let clock = place_clock(t, s.base, s.clock);
+    let lease = lease_clock(s.base, s.lease);
+    base::base_move(t, bit(flags, 0), last, own, s.base, clock, lease)
 }
 
 // The state at the end of some ticks, and the down letter that was sent in the last.
@@ -66,13 +71,11 @@ pub(crate) fn roll_on(p: Plan, y: Yard, roll: &[u8], ticks: usize, engaged: &mut
     ensures engaged_after { engaged.new ≡ engaged_bytes p y roll.now ticks ++ drop ticks engaged.old }
 {
     let t = terms_of(p);
-    let slots = p.slots;
-    let row = row_of(p.Q, slots);
+    let row = row_of(p.Q, p.slots);
     let last = index_of(t.N);
     let mut devices = y.devices;
-    let base = y.base;
     let mut supervisor = BaseMove {
-        base,
+        base: y.base,
         clock: y.clock,
         lease: y.lease,
         down: None,
@@ -80,39 +83,29 @@ pub(crate) fn roll_on(p: Plan, y: Yard, roll: &[u8], ticks: usize, engaged: &mut
     // The byte changes only where a device moves. To read a device whose clock has just been stored would cost more than all
     // else in a tick in which nothing is due.
     let mut byte = engaged_byte(last + 1, devices);
-    let mut k: usize = 0;
-    while k < ticks {
+    for k in 0..ticks {
         let r = record_at(roll, k);
         let own = own_index(supervisor);
         let mut from_own = None;
         // The participants; then the initializer, which alone heeds the command.
-        let mut i: usize = 0;
-        while i < last {
-            let pace = pace_of(&row, i, 0, devices[i]);
-            match pace {
-                Pace::NothingDue(clock) => {
-                    devices[i].clock = clock;
-                }
-                Pace::Moves => {
-                    let up = rise(p.Q, slots[i], false, 0, r.lost, i, devices[i]);
+        for i in 0..last {
+            match pace_of(&row, i, 0, devices[i]) {
+                Some(clock) => devices[i].clock = clock,
+                None => {
+                    let up = rise(p.Q, p.slots[i], false, 0, r.lost, i, devices[i]);
                     from_own = listen(i == own, up, from_own);
-                    let left = up.device;
-                    byte = rebit(byte, i, devices[i], left);
-                    devices[i] = left;
+                    byte = rebit(byte, i, devices[i], up.device);
+                    devices[i] = up.device;
                 }
             }
-            i += 1;
         }
         let mut from_last = None;
-        let pace = pace_of(&row, last, r.command, devices[last]);
-        match pace {
-            Pace::NothingDue(clock) => {
-                devices[last].clock = clock;
-            }
-            Pace::Moves => {
+        match pace_of(&row, last, r.command, devices[last]) {
+            Some(clock) => devices[last].clock = clock,
+            None => {
                 let up = rise(
                     p.Q,
-                    slots[last],
+                    p.slots[last],
                     true,
                     r.command,
                     r.lost,
@@ -121,27 +114,24 @@ pub(crate) fn roll_on(p: Plan, y: Yard, roll: &[u8], ticks: usize, engaged: &mut
                 );
                 from_last = up.heard;
                 from_own = listen(last == own, up, from_own);
-                let left = up.device;
-                byte = rebit(byte, last, devices[last], left);
-                devices[last] = left;
+                byte = rebit(byte, last, devices[last], up.device);
+                devices[last] = up.device;
             }
         }
         supervisor = supervise(t, r.flags, from_last, from_own, supervisor);
-        let to = reached(t.N, r.flags, supervisor);
-        if to != 0 {
+        if let Some(to) = reached(t.N, r.flags, supervisor) {
             let at = index_of(to);
-            devices[at] = arrive(slots[at], r.willing, supervisor, to, devices[at]);
+            devices[at] = arrive(p.slots[at], r.willing, supervisor, to, devices[at]);
         }
         engaged[k] = byte;
-        k += 1;
     }
-    let base = supervisor.base;
-    let down = supervisor.down;
-    let yard = Yard {
-        base,
-        clock: supervisor.clock,
-        lease: supervisor.lease,
-        devices,
-    };
-    Stepped { yard, down }
+    Stepped {
+        yard: Yard {
+            base: supervisor.base,
+            clock: supervisor.clock,
+            lease: supervisor.lease,
+            devices,
+        },
+        down: supervisor.down,
+    }
 }

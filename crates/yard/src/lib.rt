@@ -20,25 +20,27 @@ use refusals::{run_verdict, tick_verdict};
 use rolls::ticks_to_do;
 use rules::{Base, FreshAnswer, Plan, Record, RunAnswer, TickAnswer, Yard};
 
+#[tactic(auto, unfolding(rules::specs::Yard::fresh_yard))]
 fn fresh_yard() -> Yard
     ensures { result ≡ fresh_yard }
 {
-    let d = fresh_device();
     Yard {
         base: Base::FallBack,
         clock: 0,
         lease: 0,
-        devices: [d; 8],
+        devices: [fresh_device(); 8],
     }
 }
 
 // The verdict on the plan beside a fresh yard, which is the same for every plan, refused or not.
+#[tactic(auto, unfolding(rules::specs::Yard::fresh_answer))]
 pub fn fresh(p: Plan) -> FreshAnswer
     ensures { result ≡ fresh_answer p }
 {
-    let verdict = plan::check(p);
-    let yard = fresh_yard();
-    FreshAnswer { verdict, yard }
+    FreshAnswer {
+        verdict: plan::check(p),
+        yard: fresh_yard(),
+    }
 }
 
 // One tick. It is refused for its plan (1 to 9), then its state (11 at 0), then its record (10 at 1), and then answers the
@@ -57,12 +59,10 @@ pub fn tick(p: Plan, y: Yard, r: Record) -> TickAnswer
     let roll = [r.command, r.flags, r.willing, r.lost];
     let mut engaged = [0u8; 1];
     let s = roll_on(p, y, &roll, 1, &mut engaged);
-    let yard = s.yard;
-    let down = s.down;
     TickAnswer {
         verdict,
-        yard,
-        down,
+        yard: s.yard,
+        down: s.down,
     }
 }
 
@@ -87,10 +87,9 @@ pub fn run(p: Plan, y: Yard, roll: &[u8], budget: usize, engaged: &mut [u8]) -> 
         };
     };
     let s = roll_on(p, y, roll, ticks, engaged);
-    let yard = s.yard;
     RunAnswer {
         verdict,
-        yard,
+        yard: s.yard,
         ticks,
     }
 }

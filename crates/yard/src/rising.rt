@@ -6,19 +6,17 @@ ghost use Rattle.rules.specs.Tick.Step2.{moved};
 ghost use Rattle.pace.specs.Pace.{clocked_by, pace_by, went_up};
 
 use crate::clocks::clocked;
-use pace::{Pace, Risen, goes_up, pace_by};
+use pace::{Risen, goes_up, pace_by};
 use rules::{Device, Slot};
 use vocabulary::place_number;
 
-// What the device at i does. The row has the times that clocks run to, six for each device, by the number of its place.
-pub(crate) fn pace_of(row: &[u16; 48], i: usize, command: u8, d: Device) -> Pace
+// What the device at i does, as `pace_by` answers it. The row has the times that clocks run to, six for each device, by the number of its place.
+pub(crate) fn pace_of(row: &[u16; 48], i: usize, command: u8, d: Device) -> Option<u16>
     requires { i < 8 }
     ensures { result ≡ pace_by (get_or row.now (6 * i + place_number d.place) 0) command d }
 {
-    let place = d.place;
-    let letter = d.letter;
-    let time = row[6 * i + place_number(place) as usize];
-    pace_by(time, command, place, letter, d.clock)
+    let time = row[6 * i + usize::from(place_number(d.place))];
+    pace_by(time, command, d)
 }
 
 // The device at i; the initializer alone heeds the command. Bit i of `lost` says that its letter is lost.

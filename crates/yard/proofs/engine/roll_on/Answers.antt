@@ -1,4 +1,4 @@
-use Rattle.std.specs.Prelude.{Option}
+use Rattle.std.specs.Prelude.{Option, Some}
 use Prim.Native.Nat.{ℕ, ◌+◌, ◌-◌, ◌≤◌, ◌<◌}
 use native.Mathlib.Omega.{arith}
 use mathlib.Core.Path.{◌≡◌, sym, ◌∙◌, ap}
@@ -29,7 +29,7 @@ use Rattle.yard.proofs.Loop.{Rolled, rolls}
 use Rattle.yard.proofs.Loop as loop
 use Rattle.yard.proofs.engine.roll_on.Invariants.{yard_of, pass_of}
 use Rattle.yard.proofs.engine.roll_on.Goals as goal
-use Rattle.yard.proofs.engine.roll_on.Goals.{in-NothingDue, in-Moves, in-NothingDue-pace, in-Moves-pace, then-to-ne0, else-to-ne0}
+use Rattle.yard.proofs.engine.roll_on.Goals.{in-Some, in-None, in-Some-pace_of, in-None-pace_of, in-Some-reached, in_default}
 
 pub terms_of-t-requires : goal.terms_of-t-requires
 terms_of-t-requires c =
@@ -48,7 +48,7 @@ loop-k-init c =
     let names : c.terms_of-t.result.N ≡ a.p.N = ap (λ (t : Terms). t.N) c.terms_of-t.ensures in
     let all : c.index_of-last.result + 1 ≡ a.p.N = omega (arith, c.index_of-last.ensures, fit.some, names) in
     let eight : length a.y.devices ≡ 8 = search rules in
-    loop.starts a.p a.y a.roll.now a.engaged.now a.ticks _ c.requires.sound.0 c.requires.sound.1 _
+    loop.starts a.p a.y a.roll.now a.engaged.now _ c.requires.sound.0 c.requires.sound.1 _
     eight all c.engaged_byte-byte.ensures
 
 pub loop-i-init : goal.loop-i-init
@@ -70,55 +70,48 @@ loop-i-preserved c =
     let inv : Passed o here.i here.devices here.from_own here.byte = here.invariant in
     let low : here.i < last = omega arith in
     next_passed inv low
-    (elim c.match-pace.branch [
-      | in-NothingDue w ↦
-          let still = rw w.in-NothingDue.is at (paced _ _ _ c.pace_of-pace.ensures) in
+    (elim c.match-pace_of.branch [
+      | in-Some w ↦
+          let still = rw w.in-Some.is at (paced _ _ _ c.pace_of.ensures) in
           rw (w.devices-is, w.byte-is, w.from_own-is)
           (stays inv (without_command o here.i low) c.row_of-row.ensures still).0
-      | in-Moves w ↦
+      | in-None w ↦
           rw (w.devices-is, w.byte-is, w.from_own-is ∙ w.listen-from_own.ensures)
           (moves inv false 0 (participant o here.i low) w.rise-up.ensures w.rebit-byte.ensures).0
     ])
 
-pub pace_of-pace-requires-in-loop-k : goal.pace_of-pace-requires-in-loop-k
-pace_of-pace-requires-in-loop-k c = c.loop-i.invariant.room
+pub pace_of-requires-in-loop-k : goal.pace_of-requires-in-loop-k
+pace_of-requires-in-loop-k c = c.loop-i.invariant.room
 
-pub rise-up-requires-in-Moves-pace : goal.rise-up-requires-in-Moves-pace
-rise-up-requires-in-Moves-pace c =
+pub rise-up-requires-in-None-pace_of : goal.rise-up-requires-in-None-pace_of
+rise-up-requires-in-None-pace_of c =
     let done : c.loop-i.i ≡ c.index_of-last.result = omega arith in
     rw done at c.loop-i.invariant.short
 
-pub rebit-byte-requires-in-Moves-pace : goal.rebit-byte-requires-in-Moves-pace
-rebit-byte-requires-in-Moves-pace c =
-    let out = c.loop-i-test.false in
+pub rebit-byte-requires-in-None-pace_of : goal.rebit-byte-requires-in-None-pace_of
+rebit-byte-requires-in-None-pace_of c =
     let done : c.loop-i.i ≡ c.index_of-last.result = omega (arith, c.loop-i.invariant.within) in
-    rw done at (rebits c.loop-i.invariant c.rise-up-in-Moves-pace.result.device)
+    rw done at (rebits c.loop-i.invariant c.rise-up-in-None-pace_of.result.device)
 
 pub bounds-devices-at : goal.bounds-devices-at
 bounds-devices-at c =
     let names = ap (λ (t : Terms). t.N) c.terms_of-t.ensures in
     let few = c.loop-k.invariant.ready.few in
     let at = c.index_of-at.ensures in
-    let to = c.reached-to.ensures.1 in
+    let to = rw c.in-Some-reached.is at c.reached.ensures.in_the_yard in
     omega arith
 
-pub bounds-devices-at-then-to-ne0 : goal.bounds-devices-at-then-to-ne0
-bounds-devices-at-then-to-ne0 c =
+pub bounds-devices-at-in-Some-reached : goal.bounds-devices-at-in-Some-reached
+bounds-devices-at-in-Some-reached c =
     let names = ap (λ (t : Terms). t.N) c.terms_of-t.ensures in
     let few = c.loop-k.invariant.ready.few in
     let at = c.index_of-at.ensures in
-    let to = c.reached-to.ensures.1 in
+    let to = rw c.in-Some-reached.is at c.reached.ensures.in_the_yard in
     omega arith
 
 pub bounds-engaged-k : goal.bounds-engaged-k
 bounds-engaged-k c =
-    let test = c.loop-k-test.true in
     omega (arith, c.requires.ticks_in_bounds, c.loop-k.invariant.room)
-
-pub overflow_add-k : goal.overflow_add-k
-overflow_add-k c =
-    let test = c.loop-k-test.true in
-    omega (arith, c.ranges)
 
 pub loop-k-preserved : goal.loop-k-preserved
 loop-k-preserved c =
@@ -131,54 +124,56 @@ loop-k-preserved c =
     let own_is = c.own_index-own.ensures in
     let y : Yard = yard_of c.loop-k.supervisor c.loop-k.devices in
     let o : Pass = pass_of p r last own c.loop-k.devices in
-    let left : List Device = c.match-pace-2.devices in
-    let from_last : Option Letter = c.match-pace-2.from_last in
-    let from_own : Option Letter = c.match-pace-2.from_own in
-    let byte : ℕ = c.match-pace-2.byte in
+    let left : List Device = c.match-pace_of-2.devices in
+    let from_last : Option Letter = c.match-pace_of-2.from_last in
+    let from_own : Option Letter = c.match-pace_of-2.from_own in
+    let byte : ℕ = c.match-pace_of-2.byte in
     let m : BaseMove = c.supervise-supervisor.result in
-    let to : ℕ = c.reached-to.result in
     let fit = c.loop-k.invariant.ready in
     let n : last + 1 ≡ p.N = c.loop-k.invariant.initializer in
     let own_in : own ≤ last = omega (arith, own_is, n, fit.index, fit.some) in
-    let done : here.i ≡ last = omega (arith, here.invariant.within, c.loop-i-test.false) in
+    let done : here.i ≡ last = omega (arith, here.invariant.within) in
     let inv : Passed o last here.devices here.from_own here.byte = rw done at here.invariant in
     let come : Come o (last + 1) left from_own byte × (from_last ≡ hears o last) =
-    elim c.match-pace-2.branch [
-      | in-NothingDue-pace w ↦
-          let still = rw w.in-NothingDue-pace.is at (paced _ _ _ c.pace_of-pace-in-loop-k.ensures) in
+    elim c.match-pace_of-2.branch [
+      | in-Some-pace_of w ↦
+          let still = rw w.in-Some-pace_of.is at (paced _ _ _ c.pace_of-in-loop-k.ensures) in
           rw (w.devices-is, w.byte-is, w.from_own-is, w.from_last-is)
           (stays inv (initializer o) c.row_of-row.ensures still)
-      | in-Moves-pace w ↦
-          let listened = w.from_own-is ∙ w.listen-from_own-in-Moves-pace.ensures in
+      | in-None-pace_of w ↦
+          let listened = w.from_own-is ∙ w.listen-from_own-in-None-pace_of.ensures in
           rw (w.devices-is, w.byte-is, listened, w.from_last-is)
-          (moves inv true r.command (initializer o) w.rise-up-in-Moves-pace.ensures w.rebit-byte-in-Moves-pace.ensures)
+          (moves inv true r.command (initializer o) w.rise-up-in-None-pace_of.ensures w.rebit-byte-in-None-pace_of.ensures)
     ] in
     let terms_are = c.terms_of-t.ensures in
     let m_is : m ≡ hearing p y r from_last from_own = c.supervise-supervisor.ensures ∙ rw terms_are in
     let eight : length left ≡ 8 = rw come.0.devices (sweep_length (leaves o) c.loop-k.devices (last + 1)) in
-    let to_is : to ≡ reached_by p.N (down_lost r) m.down = c.reached-to.ensures.0 ∙ rw terms_are in
-    let to_in : to ≤ p.N = rw terms_are at c.reached-to.ensures.1 in
+    let to_is : c.reached.result ≡ reached_by p.N (down_lost r) m.down = c.reached.ensures.device ∙ rw terms_are in
     let byte_left : byte ≡ byte_of p.N left = rw n at come.0.byte_is in
-    let end : (c.if-to-ne0.devices ≡ sweep p.N (delivered_by p.slots (down_lost r) r.willing m.down) left)
-    × (byte ≡ byte_of p.N c.if-to-ne0.devices) =
-    elim c.if-to-ne0.branch [
-      | then-to-ne0 w ↦
+    let end : (c.match-reached.devices ≡ sweep p.N (delivered_by p.slots (down_lost r) r.willing m.down) left)
+    × (byte ≡ byte_of p.N c.match-reached.devices) =
+    elim c.match-reached.branch [
+      | in-Some-reached w ↦
           let at = w.index_of-at.ensures in
+          let to : ℕ = w.in-Some-reached.to in
+          let for : Some to ≡ reached_by p.N (down_lost r) m.down = sym w.in-Some-reached.is ∙ to_is in
+          let in_t : (1 ≤ to) × (to ≤ c.terms_of-t.result.N) = rw w.in-Some-reached.is at c.reached.ensures.in_the_yard in
+          let in_n : to ≤ p.N = rw terms_are at in_t.1 in
           let x : Device = w.arrive.result in
           let x_is : x ≡ arrived (slot_at p.slots to) (bit r.willing (to - 1)) m.down to (device_at left to) =
           w.arrive.ensures ∙ rw at in
           rw (w.devices-is, at) (
-            reaches p.slots (down_lost r) r.willing m.down p.N to left eight to_is x w.if-to-ne0.true fit.few x_is,
-            byte_left ∙ sym (arrival_byte p.N to left _ _ m.down x eight (omega (arith, w.if-to-ne0.true)) to_in fit.few x_is),
+            reaches p.slots (down_lost r) r.willing m.down p.N left eight to x for fit.few x_is,
+            byte_left ∙ sym (arrival_byte p.N to left _ _ m.down x eight in_t.0 in_n fit.few x_is),
           )
-      | else-to-ne0 w ↦
+      | in_default w ↦
           rw w.devices-is
-          (unreached p.slots (down_lost r) r.willing m.down p.N to left eight to_is w.if-to-ne0.false, byte_left)
+          (unreached p.slots (down_lost r) r.willing m.down p.N left eight (sym w.in_default.is ∙ to_is), byte_left)
     ] in
     let yard = ticked p y r last own n own_is own_in left _ _ _ byte m come.0 come.1 m_is end.0 in
     let down = sends p y r last own n own_is own_in left _ _ _ byte m come.0 come.1 m_is end.0 in
-    rolls p a.y a.roll.now a.engaged.now a.ticks last c.requires.sound.0 c.requires.sound.1 _ y _ _ _ _ _ byte r
-    c.loop-k.invariant c.loop-k-test.true c.requires.ticks_in_bounds c.record_at-r.ensures yard down end.1
+    rolls p a.y a.roll.now a.engaged.now last c.requires.sound.0 c.requires.sound.1 _ y _ _ _ _ _ byte r
+    c.loop-k.invariant (omega (arith, c.requires.ticks_in_bounds)) c.record_at-r.ensures yard down end.1
 
 pub shape_of-engaged : goal.shape_of-engaged
 shape_of-engaged c = c.loop-k.invariant.room
@@ -187,5 +182,5 @@ pub returns : goal.returns
 returns c =
     let inv = c.loop-k.invariant in
     let ticks : ℕ = c.args.ticks in
-    let all : c.loop-k.k ≡ ticks = omega (arith, c.loop-k-test.false, inv.within) in
+    let all : c.loop-k.k ≡ ticks = omega arith in
     record { yard_after = (rw all at inv.yard, rw all at inv.down); engaged_after = rw all at inv.bytes }

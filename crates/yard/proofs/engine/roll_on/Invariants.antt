@@ -1,5 +1,4 @@
-use Prim.Native.Nat.{ℕ, ◌-◌}
-use mathlib.Core.List.{List}
+use Rattle.std.proofs.Common.{ℕ, List}
 use Rattle.rules.specs.declared.BaseMove.{BaseMove}
 use Rattle.rules.specs.declared.Device.{Device}
 use Rattle.rules.specs.declared.Plan.{Plan}
@@ -19,14 +18,6 @@ abbrev pub invariant-loop-i : goal.invariant-loop-i
 invariant-loop-i l =
     Passed (pass_of l.p l.r l.last l.own l.initial.devices) l.i l.devices l.from_own l.byte
 
-abbrev pub decreases-loop-i : goal.decreases-loop-i
-decreases-loop-i l =
-    l.last - l.i
-
 abbrev pub invariant-loop-k : goal.invariant-loop-k
 invariant-loop-k l =
-    Rolled l.p (yard_of l.initial.supervisor l.initial.devices) l.roll l.initial.engaged l.ticks l.last l.k (yard_of l.supervisor l.devices) l.supervisor.down l.engaged l.byte
-
-abbrev pub decreases-loop-k : goal.decreases-loop-k
-decreases-loop-k l =
-    l.ticks - l.k
+    Rolled l.p (yard_of l.initial.supervisor l.initial.devices) l.roll l.initial.engaged l.last l.k (yard_of l.supervisor l.devices) l.supervisor.down l.engaged l.byte
