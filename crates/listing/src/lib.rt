@@ -11,6 +11,7 @@ use line::header_line;
 use lines::lines;
 use listing_rules::Listed;
 use rules::{Plan, Yard};
+use text::Pen;
 
 // No line is longer, the header neither: one is begun only where so many bytes of room are left.
 pub const LINE_ROOM: usize = 64;
@@ -22,16 +23,12 @@ pub fn header(n: u16, out: &mut [u8], at: usize) -> usize
     ensures value { result ≡ at + length (header_written n (length out.old) at) }
     ensures out_after { out.new ≡ header_buffer n out.old at }
 {
-    if 8 < n {
+    if 8 < n || out.len().saturating_sub(at) < LINE_ROOM {
         return at;
     }
-    if out.len() < LINE_ROOM {
-        return at;
-    }
-    if out.len() - LINE_ROOM < at {
-        return at;
-    }
-    header_line(n, out, at)
+    let mut pen = Pen::new(out, at);
+    header_line(n, &mut pen);
+    pen.at
 }
 
 // The lines of a roll's ticks from the state it is given, numbered from first + 1: as many ticks as have room, each begun

@@ -5,12 +5,14 @@ ghost use Rattle.rules.specs.Tick.Input.{down_lost};
 ghost use Rattle.rules.specs.Run.{roll_verdict};
 ghost use Rattle.listing_rules.specs.Listing.{list_answer, list_buffer};
 
-use crate::{LINE_ROOM, Listed};
+use crate::LINE_ROOM;
 use line::line;
-use numbers::widths::long;
+use listing_rules::Listed;
 use rolls::{record_at, records};
 use rules::{Plan, Record, Yard};
+use text::Pen;
 
+#[tactic(auto, unfolding(laws::specs::Bits::bit))]
 fn down_lost(r: Record) -> bool
     ensures { result ≡ down_lost r }
 {
@@ -25,21 +27,22 @@ pub(crate) fn lines(p: Plan, y: Yard, roll: &[u8], first: u32, out: &mut [u8]) -
 {
     let count = records(roll);
     let room = out.len();
+    let mut pen = Pen::new(out, 0);
     let mut yard = y;
     let mut k: usize = 0;
-    let mut at: usize = 0;
-    while (k < count) & (LINE_ROOM <= room - at) {
+    // Stays: `k` is part of the answer, and of what ends the loop; a `for` with a `break` would need a second count beside its own.
+    while (k < count) & (LINE_ROOM <= room - pen.at) {
         let r = record_at(roll, k);
         let a = yard::tick(p, yard, r);
-        let down = a.down;
         yard = a.yard;
-        at = line(long(first) + k + 1, p.N, yard, down, down_lost(r), out, at);
+        let number = first as usize + k + 1;
+        line(number, p.N, yard, a.down, down_lost(r), &mut pen);
         k += 1;
     }
     Listed {
         verdict: Ok(()),
         yard,
         ticks: k,
-        length: at,
+        length: pen.at,
     }
 }

@@ -1,6 +1,7 @@
 // What could not be read or written, and why: a line on standard error.
 use std::fmt::Write;
 use std::{fmt, io};
+use text::Pen;
 
 // Twice what the longest words of the system take; what is longer is cut off.
 const ROOM: usize = 128;
@@ -14,7 +15,9 @@ struct Words {
 
 impl fmt::Write for Words {
     fn write_str(&mut self, s: &str) -> fmt::Result {
-        self.len = text::word(s.as_bytes(), &mut self.text, self.len);
+        let mut pen = Pen::new(&mut self.text, self.len);
+        pen.word(s.as_bytes());
+        self.len = pen.at;
         Ok(())
     }
 }

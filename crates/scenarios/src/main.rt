@@ -4,11 +4,14 @@
 
 use case_input::fill;
 use std::rt::Files;
+use text::Pen;
 
 // A folder's name and a file's in it, as far as there is room.
 fn path<'a>(room: &'a mut [u8], folder: &[u8], file: &[u8]) -> &'a [u8] {
-    let at = text::word(folder, room, 0);
-    let end = text::word(file, room, at).min(room.len());
+    let mut pen = Pen::new(room, 0);
+    pen.word(folder);
+    pen.word(file);
+    let end = pen.at.min(room.len());
     &room[..end]
 }
 

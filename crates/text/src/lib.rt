@@ -1,42 +1,53 @@
-// Text in a buffer that the caller lends: a byte, a word, a number in decimal, each laid from a place on. The answer is where it
-// ends, and where the next one goes.
+// Text in a buffer that the caller lends, by a pen: a byte, a word, a number in decimal, each laid where the pen stands, which
+// is then where the next one goes.
 //
-// Every function here is total: what has no room is cut off, and nothing is written past the end. None has a `requires`.
+// Every method here is total: what has no room is cut off, and nothing is written past the end. None has a `requires`.
 #![tactic(auto)]
 
-ghost use Rattle.std.specs.Prelude.{[], ◌∷◌};
+ghost use Rattle.std.specs.Prelude.{[], ◌∷◌, ◌≡◌};
 ghost use Rattle.text_rules.specs.Decimal.{decimal};
-ghost use Rattle.text_rules.specs.Laid.{Laid};
+ghost use Rattle.text.specs.Lays.{Lays};
 
-#[tactic(auto, using(text_rules::proofs::Laying::no_room))]
-pub fn byte(b: u8, out: &mut [u8], at: usize) -> usize
-    ensures { Laid out.old at (b ∷ []) out.new result }
-{
-    if at < out.len() {
-        out[at] = b;
-        return at + 1;
-    }
-    at
+// A lent buffer, and the place where its next byte goes.
+#[derive(Drop)]
+pub struct Pen<'a> {
+    pub out: &'a mut [u8],
+    pub at: usize,
 }
 
-pub fn word(text: &[u8], out: &mut [u8], at: usize) -> usize
-    ensures { Laid out.old at text.now out.new result }
-{
-    let mut e = at;
-    for &b in text {
-        e = byte(b, out, e);
+impl<'a> Pen<'a> {
+    pub fn new(out: &'a mut [u8], at: usize) -> Pen<'a>
+        ensures same_buffer { result.out.ghost_name ≡ out.entry.ghost_name }
+        ensures as_lent { result.out.now ≡ out.old }
+        ensures place { result.at ≡ at }
+    {
+        Pen { out, at }
     }
-    e
-}
 
-// A number in decimal, with no zero in front. It calls itself for the digits before the last, at most 20 deep.
-#[tactic(auto, using(text_rules::proofs::Decimals::one_digit))]
-pub fn number(n: usize, out: &mut [u8], at: usize) -> usize
-    ensures { Laid out.old at (decimal n) out.new result }
-{
-    if n < 10 {
-        return byte(b'0' + n as u8, out, at);
+    pub fn byte(&mut self, b: u8)
+        ensures { Lays self.old (b ∷ []) self.new }
+    {
+        if self.at < self.out.len() {
+            self.out[self.at] = b;
+            self.at += 1;
+        }
     }
-    let e = number(n / 10, out, at);
-    byte(b'0' + (n % 10) as u8, out, e)
+
+    pub fn word(&mut self, text: &[u8])
+        ensures { Lays self.old text.now self.new }
+    {
+        for &b in text {
+            self.byte(b);
+        }
+    }
+
+    // A number in decimal, with no zero in front. It calls itself for the digits before the last, at most 20 deep.
+    pub fn number(&mut self, n: usize)
+        ensures { Lays self.old (decimal n) self.new }
+    {
+        if 10 <= n {
+            self.number(n / 10);
+        }
+        self.byte(b'0' + (n % 10) as u8);
+    }
 }

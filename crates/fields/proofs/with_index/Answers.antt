@@ -1,7 +1,5 @@
-use Rattle.text_rules.proofs.Laying.{and_then}
+use Rattle.text.proofs.Pens.{and_then}
 use Rattle.fields.proofs.with_index.Goals as goal
 
 pub returns : goal.returns
-returns c =
-    let index = rw c.long_byte.ensures.0 at c.number.ensures in
-    and_then c.short-e.ensures index
+returns c = and_then c.short.ensures (rw c.from.ensures at c.number.ensures)

@@ -1,4 +1,3 @@
-use mathlib.Core.Path.{sym, ◌∙◌}
 use Rattle.listing_rules.proofs.Rolls.{list_refused}
 use Rattle.listing.proofs.list.Goals as goal
 
@@ -8,6 +7,3 @@ returns-in_default c =
     let a = c.args in
     let both = list_refused a.p a.y a.roll.now a.first a.out.now v.result _ _ v.ensures c.in_default.is in
     record { value = both.0; out_after = both.1 }
-
-pub lines-requires : goal.lines-requires
-lines-requires c = sym c.roll_verdict-verdict.ensures ∙ c.in-Accepted.is

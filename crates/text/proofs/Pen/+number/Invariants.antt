@@ -1,4 +1,4 @@
-use Rattle.text.proofs.+number.Given as goal
+use Rattle.text.proofs.Pen.+number.Given as goal
 
 abbrev pub decreases-number : goal.decreases-number
 decreases-number l = l.n
