@@ -1,6 +1,6 @@
--- The lines of the table that are asked at one index, in its order: the number of the first that is broken, 10 where none is.
+-- The lines of the table that are asked at one index, in its order: the number of the first that is broken, if one is.
 -- These are what the plan check computes on the way; what its caller is promised is `plan_verdict` of the rules.
-use Rattle.std.specs.Prelude.{ℕ, ◌+◌, ◌-◌, ◌*◌, Bool, not, ◌&&◌, cond, leb, ltb, eqb}
+use Rattle.std.specs.Prelude.{ℕ, ◌+◌, ◌-◌, ◌*◌, Bool, not, ◌&&◌, cond, leb, ltb, eqb, Option, None, Some}
 use Rattle.rules.specs.declared.Slot.{Slot}
 use Rattle.rules.specs.Plan.{stay_of, is_time}
 
@@ -45,28 +45,28 @@ abbrev pub c7_holds : Slot → Bool
 c7_holds s = ltb s.S s.X
 
 -- At the yard's index: lines 1, 2, 4 and 5.
-unfoldable pub yard_line : ℕ → ℕ → ℕ → ℕ → ℕ → ℕ
+unfoldable pub yard_line : ℕ → ℕ → ℕ → ℕ → ℕ → Option ℕ
 yard_line N W B Q LS =
-    cond (not (size_holds N)) 1
-    (cond (not (yard_times W B Q)) 2 (cond (not (c2_holds N W LS)) 4 (cond (not (c3_holds N W Q LS)) 5 10)))
+    cond (not (size_holds N)) (Some 1)
+    (cond (not (yard_times W B Q)) (Some 2) (cond (not (c2_holds N W LS)) (Some 4) (cond (not (c3_holds N W Q LS)) (Some 5) None)))
 
 -- At a device that makes a pair with the next: lines 2, 6, 7, 8 and 9.
-unfoldable pub pair_line : ℕ → ℕ → ℕ → Slot → Slot → ℕ
+unfoldable pub pair_line : ℕ → ℕ → ℕ → Slot → Slot → Option ℕ
 pair_line k W LS s next =
-    cond (not (device_times s && pair_times s)) 2
-    (cond (not (c4_holds k W LS s)) 6
-    (cond (not (c5_holds s next)) 7 (cond (not (c6_holds W s next)) 8 (cond (not (c7_holds s)) 9 10))))
+    cond (not (device_times s && pair_times s)) (Some 2)
+    (cond (not (c4_holds k W LS s)) (Some 6)
+    (cond (not (c5_holds s next)) (Some 7) (cond (not (c6_holds W s next)) (Some 8) (cond (not (c7_holds s)) (Some 9) None))))
 
 -- At device N: lines 2, 3 and 6.
-unfoldable pub last_line : ℕ → ℕ → ℕ → Slot → ℕ
+unfoldable pub last_line : ℕ → ℕ → ℕ → Slot → Option ℕ
 last_line k W LS s =
-    cond (not (device_times s)) 2 (cond (not (no_spacing s)) 3 (cond (not (c4_holds k W LS s)) 6 10))
+    cond (not (device_times s)) (Some 2) (cond (not (no_spacing s)) (Some 3) (cond (not (c4_holds k W LS s)) (Some 6) None))
 
 -- At a slot above N: line 3.
-unfoldable pub unused_line : Slot → ℕ
-unused_line s = cond (not (all_zero s)) 3 10
+unfoldable pub unused_line : Slot → Option ℕ
+unused_line s = cond (not (all_zero s)) (Some 3) None
 
 -- At the slot with k slots before it.
-unfoldable pub slot_line : ℕ → ℕ → ℕ → ℕ → Slot → Slot → ℕ
+unfoldable pub slot_line : ℕ → ℕ → ℕ → ℕ → Slot → Slot → Option ℕ
 slot_line k N W LS s next =
     cond (ltb (k + 1) N) (pair_line k W LS s next) (cond (eqb (k + 1) N) (last_line k W LS s) (unused_line s))

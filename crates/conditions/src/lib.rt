@@ -4,21 +4,21 @@
 // At each index the lines that are asked there are tried in the table's order. The answer is the first that is broken.
 #![tactic(auto)]
 
-ghost use Rattle.std.specs.Prelude.{◌≡◌, ◌*◌, ◌≤◌};
+ghost use Rattle.std.specs.Prelude.{◌≡◌, ◌*◌};
 ghost use Rattle.rules.specs.Plan.{is_time};
 ghost use Rattle.conditions.specs.Lines.{size_holds, yard_times, device_times, pair_times, no_spacing, all_zero, c2_holds, c3_holds, c4_holds, c5_holds, c6_holds, c7_holds, yard_line, pair_line, last_line, unused_line, slot_line};
 
 use lease::stay;
-use numbers::widths::{broad, wide};
 use rules::Slot;
 
 fn product(a: u16, b: u16) -> u32
     ensures { result ≡ a * b }
 {
-    broad(a) * broad(b)
+    u32::from(a) * u32::from(b)
 }
 
 // A time that a plan may hold.
+#[tactic(auto, using(laws::proofs::Tests::all_is), unfolding(rules::specs::Plan::is_time))]
 fn is_time(t: u16) -> bool
     ensures { result ≡ is_time t }
 {
@@ -68,29 +68,28 @@ fn c2(n: u16, w: u16, ls: u32) -> bool
 }
 
 fn c3(n: u16, w: u16, q: u16, ls: u32) -> bool
-    requires { 1 ≤ n }
     ensures { result ≡ c3_holds n w q ls }
 {
-    (product(n - 1, w) < broad(q)) & (broad(q) < ls)
+    (product(n.saturating_sub(1), w) < u32::from(q)) & (u32::from(q) < ls)
 }
 
 // With k devices before it: a byte, so that the sum fits.
 fn c4(k: u8, w: u16, ls: u32, s: Slot) -> bool
     ensures { result ≡ c4_holds k w ls s }
 {
-    product(wide(k), w) + stay(s) <= ls
+    product(u16::from(k), w) + stay(s) <= ls
 }
 
 fn c5(s: Slot, next: Slot) -> bool
     ensures { result ≡ c5_holds s next }
 {
-    broad(s.E) + broad(s.G) < broad(next.E)
+    u32::from(s.E) + u32::from(s.G) < u32::from(next.E)
 }
 
 fn c6(w: u16, s: Slot, next: Slot) -> bool
     ensures { result ≡ c6_holds w s next }
 {
-    broad(w) + stay(next) < broad(s.E) + broad(s.R)
+    u32::from(w) + stay(next) < u32::from(s.E) + u32::from(s.R)
 }
 
 fn c7(s: Slot) -> bool
@@ -99,79 +98,83 @@ fn c7(s: Slot) -> bool
     s.S < s.X
 }
 
-// The first broken line at the yard's index, 10 for none.
-pub fn yard_line(n: u16, w: u16, b: u16, q: u16, ls: u32) -> u8
+// The first broken line at the yard's index, if one is broken.
+#[tactic(auto, unfolding(crate::specs::Lines::yard_line))]
+pub fn yard_line(n: u16, w: u16, b: u16, q: u16, ls: u32) -> Option<u8>
     ensures { result ≡ yard_line n w b q ls }
 {
     if !size_holds(n) {
-        return 1;
+        return Some(1);
     }
     if !yard_times(w, b, q) {
-        return 2;
+        return Some(2);
     }
     if !c2(n, w, ls) {
-        return 4;
+        return Some(4);
     }
     if !c3(n, w, q, ls) {
-        return 5;
+        return Some(5);
     }
-    10
+    None
 }
 
 // The same at a device that makes a pair with the next.
-fn pair_line(k: u8, w: u16, ls: u32, s: Slot, next: Slot) -> u8
+#[tactic(auto, unfolding(crate::specs::Lines::pair_line))]
+fn pair_line(k: u8, w: u16, ls: u32, s: Slot, next: Slot) -> Option<u8>
     ensures { result ≡ pair_line k w ls s next }
 {
     if !(device_times(s) & pair_times(s)) {
-        return 2;
+        return Some(2);
     }
     if !c4(k, w, ls, s) {
-        return 6;
+        return Some(6);
     }
     if !c5(s, next) {
-        return 7;
+        return Some(7);
     }
     if !c6(w, s, next) {
-        return 8;
+        return Some(8);
     }
     if !c7(s) {
-        return 9;
+        return Some(9);
     }
-    10
+    None
 }
 
 // The same at device N.
-fn last_line(k: u8, w: u16, ls: u32, s: Slot) -> u8
+#[tactic(auto, unfolding(crate::specs::Lines::last_line))]
+fn last_line(k: u8, w: u16, ls: u32, s: Slot) -> Option<u8>
     ensures { result ≡ last_line k w ls s }
 {
     if !device_times(s) {
-        return 2;
+        return Some(2);
     }
     if !no_spacing(s) {
-        return 3;
+        return Some(3);
     }
     if !c4(k, w, ls, s) {
-        return 6;
+        return Some(6);
     }
-    10
+    None
 }
 
 // The same at a slot above N.
-fn unused_line(s: Slot) -> u8
+#[tactic(auto, unfolding(crate::specs::Lines::unused_line))]
+fn unused_line(s: Slot) -> Option<u8>
     ensures { result ≡ unused_line s }
 {
     if !all_zero(s) {
-        return 3;
+        return Some(3);
     }
-    10
+    None
 }
 
 // The same at the slot with k slots before it.
 #[tactic(auto, unfolding(crate::specs::Lines::slot_line))]
-pub fn slot_line(k: u8, n: u16, w: u16, ls: u32, s: Slot, next: Slot) -> u8
+pub fn slot_line(k: u8, n: u16, w: u16, ls: u32, s: Slot, next: Slot) -> Option<u8>
     ensures { result ≡ slot_line k n w ls s next }
 {
-    let i = wide(k) + 1;
+    let i = u16::from(k) + 1;
     if i < n {
         return pair_line(k, w, ls, s, next);
     }

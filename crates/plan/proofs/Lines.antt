@@ -1,9 +1,5 @@
 -- The lines that are tried at an index are those of the table that are asked there.
-use Prim.Native.Nat.{ℕ, suc, ◌+◌, ◌-◌, ◌*◌, ◌≤◌, ◌<◌}
-use native.Mathlib.Omega.{arith}
-use mathlib.Core.Path.{◌≡◌, refl, ◌∙◌, ap, ap₂}
-use mathlib.Core.Bool.{Bool, true, false, not, ◌&&◌, cond}
-use mathlib.Core.List.{List, [], ◌∷◌}
+use Rattle.std.proofs.Common.{ℕ, suc, ◌+◌, ◌-◌, ◌*◌, ◌≤◌, ◌<◌, arith, ◌≡◌, refl, ◌∙◌, sym, ap, ap₂, Bool, true, false, not, ◌&&◌, cond, List, [], ◌∷◌, Option, None, Some}
 use lib.Dec.{leb, ltb, eqb}
 use borrow.Author.Tests.{ltb-true, eq-eqb, ne_eqb, eqb-true}
 use Rattle.laws.specs.Tests.{any_of}
@@ -20,6 +16,41 @@ use Rattle.conditions.specs.Lines.{size_holds, yard_times, device_times, pair_ti
 unfoldable pub first_of : ℕ → List Bool → ℕ
 first_of k [] = k
 first_of k (b ∷ bs) = cond b k (first_of (suc k) bs)
+
+-- A line that was found, and 10 where none was. The table has nine.
+abbrev pub as_line : Option ℕ → ℕ
+as_line None = 10
+as_line (Some k) = k
+
+abbrev pub InTable : Option ℕ → Type 0
+InTable None = Unit
+InTable (Some k) = k ≤ 9
+
+-- The first of some tests that holds, by its line.
+one_test : (a : Bool) (i : ℕ) → as_line (cond a (Some i) None) ≡ cond a i 10
+one_test true i = refl
+one_test false i = refl
+
+three_tests :
+    (a b c : Bool) (i j k : ℕ)
+    → as_line (cond a (Some i) (cond b (Some j) (cond c (Some k) None))) ≡ cond a i (cond b j (cond c k 10))
+three_tests true b c i j k = refl
+three_tests false true c i j k = refl
+three_tests false false c i j k = one_test c k
+
+four_tests :
+    (a b c d : Bool) (i j k l : ℕ)
+    → as_line (cond a (Some i) (cond b (Some j) (cond c (Some k) (cond d (Some l) None))))
+    ≡ cond a i (cond b j (cond c k (cond d l 10)))
+four_tests true b c d i j k l = refl
+four_tests false b c d i j k l = three_tests b c d j k l
+
+five_tests :
+    (a b c d e : Bool) (i j k l m : ℕ)
+    → as_line (cond a (Some i) (cond b (Some j) (cond c (Some k) (cond d (Some l) (cond e (Some m) None)))))
+    ≡ cond a i (cond b j (cond c k (cond d l (cond e m 10))))
+five_tests true b c d e i j k l m = refl
+five_tests false b c d e i j k l m = four_tests b c d e j k l m
 
 -- The first line that is broken at index i, 10 where none is.
 abbrev pub first_line : Plan → ℕ → ℕ
@@ -81,7 +112,7 @@ module _ (p : Plan) where
   yard_size_lem = asked (eqb 0 0) _ refl ∙ ap not (all_is _ (_ ∷ []))
 
   -- A plan of the wrong size breaks line 1, whatever else.
-  pub wrong_size : size_holds p.N ≡ false → (broken p 1 0 ≡ true) × ((W B Q LS : ℕ) → yard_line p.N W B Q LS ≡ 1)
+  pub wrong_size : size_holds p.N ≡ false → (broken p 1 0 ≡ true) × ((W B Q LS : ℕ) → yard_line p.N W B Q LS ≡ Some 1)
   unfolding broken table yard_line
   wrong_size e = (yard_size_lem ∙ rw e, λ W B Q LS. rw e)
 
@@ -117,11 +148,12 @@ module _ (p : Plan) where
     unfolding line5
     yard_c3 = asked (eqb 0 0) _ refl ∙ ap not (all_is _ (_ ∷ []))
 
-    pub yard_first : first_line p 0 ≡ yard_line p.N p.W p.B p.Q (LS p)
+    pub yard_first : first_line p 0 ≡ as_line (yard_line p.N p.W p.B p.Q (LS p))
     unfolding first_of table yard_line
     yard_first =
         let off = not_pair p 0 no_pair in
         rw (yard_size_lem, yard_line2, yard_line3, yard_c2, yard_c3, not_device p 0 no_device, off.0, off.1, off.2)
+        (sym (four_tests _ _ _ _ 1 2 4 5))
 
     -- A slot's index, which is no yard's.
     module _ (k : ℕ) where
@@ -169,11 +201,12 @@ module _ (p : Plan) where
         pair_c5_c6_c7 =
             (asked (is_pair p (k + 1)) _ its_pair, asked (is_pair p (k + 1)) _ its_pair, asked (is_pair p (k + 1)) _ its_pair)
 
-        pair_first : first_line p (k + 1) ≡ pair_line k p.W (LS p) (slot p (k + 1)) (slot p (k + 1 + 1))
+        pair_first : first_line p (k + 1) ≡ as_line (pair_line k p.W (LS p) (slot p (k + 1)) (slot p (k + 1 + 1)))
         unfolding first_of table pair_line
         pair_first =
             let c = pair_c5_c6_c7 in
             rw (off.0, pair_line2, pair_line3, off.1, off.2, c4_line its_device, c.0, c.1, c.2)
+            (sym (five_tests _ _ _ _ _ 2 6 7 8 9))
 
       -- Device N.
       module _ (last : k + 1 ≡ p.N) where
@@ -198,11 +231,12 @@ module _ (p : Plan) where
             )
             (only_first _ ∙ ap not (all_is _ (_ ∷ [])))
 
-        last_first : first_line p (k + 1) ≡ last_line k p.W (LS p) (slot p (k + 1))
+        last_first : first_line p (k + 1) ≡ as_line (last_line k p.W (LS p) (slot p (k + 1)))
         unfolding first_of table last_line
         last_first =
             let no = not_pair p (k + 1) last_pair in
             rw (off.0, last_line2, last_line3, off.1, off.2, c4_line last_device, no.0, no.1, no.2)
+            (sym (three_tests _ _ _ 2 3 6))
 
       -- A slot above N.
       module _ (over : p.N < k + 1) (high : k < 8) where
@@ -226,15 +260,16 @@ module _ (p : Plan) where
             )
             (only_last _ ∙ ap not (all_is _ (_ ∷ _ ∷ _ ∷ _ ∷ _ ∷ [])))
 
-        over_first : first_line p (k + 1) ≡ unused_line (slot p (k + 1))
+        over_first : first_line p (k + 1) ≡ as_line (unused_line (slot p (k + 1)))
         unfolding first_of table unused_line
         over_first =
             let no = not_pair p (k + 1) over_pair in
             rw (off.0, over_line2, over_line3, off.1, off.2, not_device p (k + 1) over_device, no.0, no.1, no.2)
+            (sym (one_test _ 3))
 
       pub slot_first :
           k < 8
-          → first_line p (k + 1) ≡ slot_line k p.N p.W (LS p) (slot p (k + 1)) (slot p (k + 1 + 1))
+          → first_line p (k + 1) ≡ as_line (slot_line k p.N p.W (LS p) (slot p (k + 1)) (slot p (k + 1 + 1)))
       unfolding slot_line
       slot_first high =
           case (ltb (k + 1) p.N)
@@ -244,22 +279,30 @@ module _ (p : Plan) where
           (λ e. rw e (last_first (eqb-true _ _ e)))
           (λ e. rw e (over_first (omega tests) high))))
 
--- Above the yard's index no line 1 is asked.
-pub not_first : (k N W LS : ℕ) (s next : Slot) → 2 ≤ slot_line k N W LS s next
+-- What is found is a line of the table, above the yard's index not line 1.
+pub yard_in_table : (N W B Q LS : ℕ) → InTable (yard_line N W B Q LS)
+unfolding yard_line
+yard_in_table N W B Q LS =
+    on_cond InTable (not (size_holds N)) (λ q. omega arith)
+    (λ q. on_cond InTable (not (yard_times W B Q)) (λ q. omega arith)
+    (λ q. on_cond InTable (not (c2_holds N W LS)) (λ q. omega arith)
+    (λ q. on_cond InTable (not (c3_holds N W Q LS)) (λ q. omega arith) (λ q. tt))))
+
+pub not_first : (k N W LS : ℕ) (s next : Slot) → (2 ≤ as_line (slot_line k N W LS s next)) × InTable (slot_line k N W LS s next)
 unfolding slot_line pair_line last_line unused_line
 not_first k N W LS s next =
-    let P : ℕ → Type 0 = λ n. 2 ≤ n in
+    let P : Option ℕ → Type 0 = λ o. (2 ≤ as_line o) × InTable o in
     on_cond P (ltb (k + 1) N)
     (λ q.
-    on_cond P (not (device_times s && pair_times s)) (λ q. omega arith)
-    (λ q. on_cond P (not (c4_holds k W LS s)) (λ q. omega arith)
-    (λ q. on_cond P (not (c5_holds s next)) (λ q. omega arith)
-    (λ q. on_cond P (not (c6_holds W s next)) (λ q. omega arith)
-    (λ q. on_cond P (not (c7_holds s)) (λ q. omega arith) (λ q. omega arith))))))
+    on_cond P (not (device_times s && pair_times s)) (λ q. (omega arith, omega arith))
+    (λ q. on_cond P (not (c4_holds k W LS s)) (λ q. (omega arith, omega arith))
+    (λ q. on_cond P (not (c5_holds s next)) (λ q. (omega arith, omega arith))
+    (λ q. on_cond P (not (c6_holds W s next)) (λ q. (omega arith, omega arith))
+    (λ q. on_cond P (not (c7_holds s)) (λ q. (omega arith, omega arith)) (λ q. (omega arith, tt)))))))
     (λ q.
     on_cond P (eqb (k + 1) N)
     (λ q.
-    on_cond P (not (device_times s)) (λ q. omega arith)
-    (λ q. on_cond P (not (no_spacing s)) (λ q. omega arith)
-    (λ q. on_cond P (not (c4_holds k W LS s)) (λ q. omega arith) (λ q. omega arith))))
-    (λ q. on_cond P (not (all_zero s)) (λ q. omega arith) (λ q. omega arith)))
+    on_cond P (not (device_times s)) (λ q. (omega arith, omega arith))
+    (λ q. on_cond P (not (no_spacing s)) (λ q. (omega arith, omega arith))
+    (λ q. on_cond P (not (c4_holds k W LS s)) (λ q. (omega arith, omega arith)) (λ q. (omega arith, tt)))))
+    (λ q. on_cond P (not (all_zero s)) (λ q. (omega arith, omega arith)) (λ q. (omega arith, tt))))

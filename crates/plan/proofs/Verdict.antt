@@ -1,12 +1,6 @@
 -- From the least line over all indices to the verdict on the plan.
-use Prim.Native.Nat.{ℕ, zero, suc, ◌+◌, ◌≤◌, ◌<◌}
-use native.Mathlib.Omega.{arith}
-use native.Mathlib.Numerals.{add-one}
-use mathlib.Core.Path.{◌≡◌, refl, sym, ◌∙◌, ap, ap₂}
-use mathlib.Core.Bool.{Bool, true, false}
-use mathlib.Core.List.{List, [], ◌∷◌}
+use Rattle.std.proofs.Common.{ℕ, zero, suc, ◌+◌, ◌≤◌, ◌<◌, arith, add-one, ◌≡◌, refl, sym, ◌∙◌, ap, Bool, true, false, List, [], ◌∷◌, length, get_or, Option, None, Some, Err}
 use lib.Dec.{ltb}
-use lib.ListN.{length, get_or}
 use borrow.Author.Tests.{lt-ltb, ltb-true}
 use Rattle.laws.proofs.Tests.{case}
 use Rattle.rules.specs.declared.Plan.{Plan}
@@ -17,9 +11,10 @@ use Rattle.rules.specs.Table.{table, broken, line_verdict, plan_verdict}
 use Rattle.rules.proofs.Answers.{none_refused, refused_at}
 use Rattle.rules.proofs.Plans.Table.{slot_at, accepted_line, refused_line}
 use Rattle.conditions.specs.Lines.{size_holds, yard_line, slot_line}
+use Rattle.rules.specs.declared.Refusal.{Refusal}
 use Rattle.plan.specs.Places.{place_after}
-use Rattle.plan.proofs.Least.{least, least_at, Least, least_is, least_cong}
-use Rattle.plan.proofs.Lines.{first_of, first_line, yard_first, slot_first, not_first, wrong_size, few}
+use Rattle.plan.proofs.Least.{Least, IsLowest, lowest_of, lowest_is}
+use Rattle.plan.proofs.Lines.{first_of, first_line, as_line, InTable, yard_first, slot_first, yard_in_table, not_first, wrong_size, few}
 
 -- The first of a list that holds, counted from k: it holds there, and nothing before it does.
 first_low : (k : ℕ) (bs : List Bool) → k ≤ first_of k bs
@@ -83,9 +78,9 @@ module _ (p : Plan) where
         (λ m low lt. accepted_line p m (λ j inside. none_before j m (omega (arith, h.most j (omega arith)))))
 
 -- What the check finds at index 0, and at index j + 1.
-unfoldable pub found : ℕ → ℕ → List Slot → ℕ → ℕ → ℕ → ℕ
-found n w slots ls line zero = line
-found n w slots ls line (suc j) = slot_line j n w ls (get_or slots j empty_slot) (get_or slots (place_after j) empty_slot)
+unfoldable pub found : Plan → ℕ → ℕ → Option ℕ
+found p ls zero = yard_line p.N p.W p.B p.Q ls
+found p ls (suc j) = slot_line j p.N p.W ls (get_or p.slots j empty_slot) (get_or p.slots (place_after j) empty_slot)
 
 -- The next slot matters only to a pair.
 next_matters :
@@ -95,15 +90,23 @@ next_matters k N W LS s next other h =
     case (ltb (k + 1) N) (λ q. rw (h (ltb-true _ _ q))) (λ q. rw q)
 
 module _ (p : Plan) where
-  abbrev pub finds : ℕ → ℕ
-  finds = found p.N p.W p.slots (LS p) (yard_line p.N p.W p.B p.Q (LS p))
+  abbrev pub finds : ℕ → Option ℕ
+  finds = found p (LS p)
+
+  abbrev lines : ℕ → ℕ
+  lines j = as_line (finds j)
+
+  all_in_table : (j : ℕ) → InTable (finds j)
+  unfolding found
+  all_in_table zero = yard_in_table p.N p.W p.B p.Q (LS p)
+  all_in_table (suc j) = (not_first j p.N p.W (LS p) _ _).1
 
   -- At a plan of the right size the check finds at each index the first line that is broken there.
-  finds_first : size_holds p.N ≡ true → (j : ℕ) → j ≤ 8 → finds j ≡ first_line p j
+  finds_first : size_holds p.N ≡ true → (j : ℕ) → j ≤ 8 → lines j ≡ first_line p j
   unfolding found
   finds_first size zero h = sym (yard_first p size)
   finds_first size (suc j) h =
-      slots_are ∙ sym (slot_first p size j (omega arith)) ∙ ap (first_line p) (add-one j)
+      ap as_line slots_are ∙ sym (slot_first p size j (omega arith)) ∙ ap (first_line p) (add-one j)
     where
       at_place : (k : ℕ) → get_or p.slots k empty_slot ≡ slot p (k + 1)
       at_place k = slot_at p k
@@ -116,15 +119,25 @@ module _ (p : Plan) where
           ≡ slot_line j p.N p.W (LS p) (slot p (j + 1)) (slot p (j + 1 + 1))
       slots_are = rw (at_place j) (next_matters j p.N p.W (LS p) (slot p (j + 1)) _ _ next_is)
 
+  as_first : size_holds p.N ≡ true → (l a : ℕ) → Least lines 8 l a → Least (first_line p) 8 l a
+  as_first size l a h =
+      record {
+        has = sym (finds_first size a h.within) ∙ h.has;
+        within = h.within;
+        most = λ j low. omega (arith, h.most j low, finds_first size j low);
+        first = λ j low. omega (arith, h.first j low, finds_first size j (omega (arith, h.within)));
+      }
+
   -- At a plan of the wrong size it finds line 1 at index 0, and no line 1 elsewhere.
-  finds_size : size_holds p.N ≡ false → (l a : ℕ) → Least finds 8 l a → (l ≡ 1) × (a ≡ 0)
+  finds_size : size_holds p.N ≡ false → (l a : ℕ) → Least lines 8 l a → (l ≡ 1) × (a ≡ 0)
   unfolding found
   finds_size size l zero h =
-      let one : finds 0 ≡ 1 = (wrong_size p size).1 p.W p.B p.Q (LS p) in
+      let one : lines 0 ≡ 1 = ap as_line ((wrong_size p size).1 p.W p.B p.Q (LS p)) in
       (sym h.has ∙ one, refl)
   finds_size size l (suc a) h =
-      let one : finds 0 ≡ 1 = (wrong_size p size).1 p.W p.B p.Q (LS p) in
-      absurd (omega (arith, h.has, h.most 0 (omega arith), not_first a p.N p.W (LS p) (get_or p.slots a empty_slot) (get_or p.slots (place_after a) empty_slot)))
+      let one : lines 0 ≡ 1 = ap as_line ((wrong_size p size).1 p.W p.B p.Q (LS p)) in
+      let two : 2 ≤ lines (suc a) = (not_first a p.N p.W (LS p) _ _).0 in
+      absurd (omega (arith, h.has, h.most 0 (omega arith)))
 
   wrong_size_refused : size_holds p.N ≡ false → plan_verdict p ≡ Refused 1 0
   unfolding plan_verdict
@@ -133,44 +146,32 @@ module _ (p : Plan) where
       (refused_line p 1 0 (omega arith) (wrong_size p size).0 (λ j lt. absurd (omega arith)))
       (λ m low lt. absurd (omega arith))
 
-  as_first : size_holds p.N ≡ true → Least (first_line p) 8 (least finds 8) (least_at finds 8)
-  as_first size =
-      let same = least_cong finds (first_line p) 8 (finds_first size) in
-      rw (same.0, same.1) (least_is (first_line p) 8)
-
   -- What the check answers.
-  pub found_none : least finds 8 ≡ 10 → plan_verdict p ≡ Accepted
-  found_none e =
-      case (size_holds p.N)
-      (λ size. none_is_accepted p (least finds 8) (least_at finds 8) (as_first size) e)
-      (λ size. absurd (omega (arith, finds_size size (least finds 8) (least_at finds 8) (least_is finds 8))))
+  found_none : IsLowest lines 8 None → Accepted ≡ plan_verdict p
+  found_none h =
+      sym
+      (case (size_holds p.N)
+      (λ size. none_is_accepted p 10 0 (as_first size 10 0 h) refl)
+      (λ size. absurd (omega (arith, finds_size size 10 0 h))))
 
-  pub found_some : (least finds 8 ≡ 10 → ⊥) → plan_verdict p ≡ Refused (least finds 8) (least_at finds 8)
-  found_some ne =
-      case (size_holds p.N)
-      (λ size. some_is_refused p (least finds 8) (least_at finds 8) (as_first size) ne)
+  found_some : (r : Refusal) → IsLowest lines 8 (Some r) → Err r ≡ plan_verdict p
+  found_some r h =
+      sym
+      (case (size_holds p.N)
+      (λ size. some_is_refused p r.number r.index (as_first size r.number r.index h.1) (λ e. omega (arith, h.0)))
       (λ size.
-      let one = finds_size size (least finds 8) (least_at finds 8) (least_is finds 8) in
-      rw (one.0, one.1) (wrong_size_refused size))
+      let one = finds_size size r.number r.index h.1 in
+      let it_is : Refused 1 0 ≡ Refused r.number r.index = rw (one.0, one.1) refl in
+      wrong_size_refused size ∙ it_is))
 
-  -- The same, said of the numbers that the check holds when its loop has ended.
-  module _
-      (ls y k line at : ℕ)
-      (ls_is : ls ≡ LS p)
-      (y_is : y ≡ yard_line p.N p.W p.B p.Q ls)
-      (all : k ≡ 8)
-      (line_is : line ≡ least (found p.N p.W p.slots ls y) k)
-      (at_is : at ≡ least_at (found p.N p.W p.slots ls y) k)
-    where
-      same : found p.N p.W p.slots ls y ≡ finds
-      same = rw (y_is, ls_is)
+  -- The same, said of what the check holds when its loop has ended.
+  module _ (ls k : ℕ) (ls_is : ls ≡ LS p) (all : k ≡ 8) where
+    same : (r : Option Refusal) → r ≡ lowest_of (found p ls) k → IsLowest lines 8 r
+    same r e = rw (e, ls_is, all) (lowest_is finds all_in_table 8)
 
-      line_found : line ≡ least finds 8
-      line_found = line_is ∙ rw (same, all)
+    pub ends_accepted : (r : Option Refusal) → r ≡ lowest_of (found p ls) k → r ≡ None → Accepted ≡ plan_verdict p
+    ends_accepted r e n = found_none (rw n at (same r e))
 
-      pub ends_accepted : line ≡ 10 → Accepted ≡ plan_verdict p
-      ends_accepted e = sym (found_none (sym line_found ∙ e))
-
-      pub ends_refused : (line ≡ 10 → ⊥) → Refused line at ≡ plan_verdict p
-      ends_refused ne =
-          rw (line_found, at_is ∙ ap₂ least_at same all) (sym (found_some (λ e. ne (line_found ∙ e))))
+    pub ends_refused :
+        (r : Option Refusal) (x : Refusal) → r ≡ lowest_of (found p ls) k → r ≡ Some x → Err x ≡ plan_verdict p
+    ends_refused r x e s = found_some x (rw s at (same r e))

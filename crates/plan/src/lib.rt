@@ -6,7 +6,7 @@
 
 ghost use Rattle.std.specs.Prelude.{◌≡◌, ◌<◌};
 ghost use Rattle.rules.specs.Table.{plan_verdict};
-ghost use Rattle.plan.specs.Places.{place_after};
+ghost use Rattle.plan.specs.Places.{place_after, lower};
 
 use conditions::{slot_line, yard_line};
 use lease::lease_length;
@@ -14,37 +14,36 @@ use rules::{Plan, Refusal, Verdict};
 
 // The place of the slot after the one at place k; the last has none, and stands for itself.
 fn place_after(k: usize) -> usize
-    ensures { (result ≡ place_after k) × (result < 8) }
+    ensures same { result ≡ place_after k }
+    ensures inside { result < 8 }
 {
     if k < 7 { k + 1 } else { 7 }
 }
 
+// What has been found, after one more index at which `line` is the first that is broken: the lower line, and of two that are
+// the same the one that was found before.
+fn lower(found: Option<Refusal>, line: Option<u8>, index: usize) -> Option<Refusal>
+    ensures { result ≡ lower found line index }
+{
+    match (found, line) {
+        (_, None) => found,
+        (Some(refusal), Some(number)) if refusal.number <= number => found,
+        (_, Some(number)) => Some(Refusal { number, index }),
+    }
+}
+
 // The verdict on a plan: accepted, or the first line of the table that it breaks, with that line's lowest index.
-#[tactic(auto, using(crate::proofs::Verdict::ends_accepted, crate::proofs::Verdict::ends_refused))]
 pub fn check(p: Plan) -> Verdict
     ensures { result ≡ plan_verdict p }
 {
-    let n = p.N;
-    let w = p.W;
-    let slots = p.slots;
     let ls = lease_length(p);
-    let mut line = yard_line(n, w, p.B, p.Q, ls);
-    let mut at: usize = 0;
-    let mut k: usize = 0;
-    while k < 8 {
-        let next = place_after(k);
-        let found = slot_line(k as u8, n, w, ls, slots[k], slots[next]);
-        if found < line {
-            line = found;
-            at = k + 1;
-        }
-        k += 1;
+    let mut found = lower(None, yard_line(p.N, p.W, p.B, p.Q, ls), 0);
+    for (k, s) in p.slots.iter().enumerate() {
+        let next = p.slots[place_after(k)];
+        found = lower(found, slot_line(k as u8, p.N, p.W, ls, *s, next), k + 1);
     }
-    if line == 10 {
-        return Ok(());
+    match found {
+        None => Ok(()),
+        Some(refusal) => Err(refusal),
     }
-    Err(Refusal {
-        number: line,
-        index: at,
-    })
 }

@@ -1,4 +1,0 @@
-use Rattle.conditions.proofs.c5.Goals as goal
-
-pub returns : goal.returns
-returns c = cc
