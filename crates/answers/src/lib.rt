@@ -10,6 +10,7 @@ use rules::{Refusal, Verdict};
 use vocabulary::{index_of, number_of};
 
 // A plan or a yard was lent at another length than its own.
+#[tactic(auto, unfolding(exports_rules::specs::Asked::size_verdict))]
 pub fn size_verdict(fits: bool) -> Verdict
     ensures { result ≡ size_verdict fits }
 {
@@ -34,25 +35,21 @@ pub fn piece_slice(piece: Piece) -> u8
     ensures { result ≡ which_of piece }
 {
     match piece {
-        Piece::InFile { start: _, len: _ } => 0,
-        Piece::InRoll { start: _, len: _ } => 1,
+        Piece::InFile { .. } => 0,
+        Piece::InRoll { .. } => 1,
     }
 }
 
 pub fn piece_start(piece: Piece) -> usize
     ensures { result ≡ start_of piece }
 {
-    match piece {
-        Piece::InFile { start, len: _ } => start,
-        Piece::InRoll { start, len: _ } => start,
-    }
+    let (Piece::InFile { start, .. } | Piece::InRoll { start, .. }) = piece;
+    start
 }
 
 pub fn piece_len(piece: Piece) -> usize
     ensures { result ≡ length_of piece }
 {
-    match piece {
-        Piece::InFile { start: _, len } => len,
-        Piece::InRoll { start: _, len } => len,
-    }
+    let (Piece::InFile { len, .. } | Piece::InRoll { len, .. }) = piece;
+    len
 }
