@@ -4,19 +4,13 @@
 
 ghost use Rattle.std.specs.Prelude.{◌≤◌, length};
 
-use numbers::read::four_at;
-use numbers::widths::{long, long_byte};
 use rules::Verdict;
 use std::io::Read;
-
-#[derive(Clone, Copy)]
-pub struct Number {
-    pub there: bool,
-    pub value: usize,
-}
+use vocabulary::{index_of, number_of};
 
 // Fills a buffer from the input and answers how many bytes it has now: fewer than it holds where the input ends or a read
 // fails. Each turn reads a byte or more, so there are as many as the buffer has bytes.
+// Stays: `rehearsal` has such a loop, but there what came before a failed read is not the file, and the error is told; here it counts.
 pub fn fill(input: &mut impl Read, buffer: &mut [u8]) -> usize
     ensures { result ≤ length buffer.new }
 {
@@ -30,19 +24,19 @@ pub fn fill(input: &mut impl Read, buffer: &mut [u8]) -> usize
     done
 }
 
-// The next four bytes of the input.
-fn next_number(input: &mut impl Read) -> Number {
+pub fn number_or_zero(input: &mut impl Read) -> usize {
     let mut b = [0u8; 4];
-    let got = fill(input, &mut b);
-    Number {
-        there: got == 4,
-        value: long(four_at(&b, 0)),
-    }
+    fill(input, &mut b);
+    u32::from_le_bytes(b) as usize
 }
 
-pub fn number_or_zero(input: &mut impl Read) -> usize {
-    let n = next_number(input);
-    n.value
+// The next four bytes of the input, where it has as many.
+fn next_number(input: &mut impl Read) -> Option<usize> {
+    let mut b = [0u8; 4];
+    if fill(input, &mut b) < 4 {
+        return None;
+    }
+    Some(u32::from_le_bytes(b) as usize)
 }
 
 pub fn byte(input: &mut impl Read) -> u8 {
@@ -51,43 +45,20 @@ pub fn byte(input: &mut impl Read) -> u8 {
     b[0]
 }
 
-// The next bytes of the input, as many as a number before them says; more than the buffer holds count as none.
-pub fn bytes(input: &mut impl Read, buffer: &mut [u8]) -> Number {
-    let n = next_number(input);
-    let len = n.value;
-    if !n.there {
-        return n;
+// The next bytes of the input, as many as a number before them says, at the front of the buffer; none where the input has not as
+// many, or the buffer has no room for them.
+pub fn bytes<'a>(input: &mut impl Read, buffer: &'a mut [u8]) -> Option<&'a [u8]> {
+    let len = next_number(input)?;
+    let part = buffer.get_mut(..len)?;
+    if fill(input, part) < len {
+        return None;
     }
-    if buffer.len() < len {
-        return Number {
-            there: false,
-            value: 0,
-        };
-    }
-    let got = fill(input, &mut buffer[..len]);
-    Number {
-        there: got == len,
-        value: len,
-    }
-}
-
-fn number_of(v: Verdict) -> usize {
-    match v {
-        Ok(()) => 0,
-        Err(refusal) => long_byte(refusal.number),
-    }
-}
-
-fn index_of(v: Verdict) -> usize {
-    match v {
-        Ok(()) => 0,
-        Err(refusal) => refusal.index,
-    }
+    Some(part)
 }
 
 // Whether a verdict has the number (1 byte) and the index (4) that come next.
 pub fn is_said(input: &mut impl Read, v: Verdict) -> bool {
-    let number = long_byte(byte(input));
+    let number = byte(input);
     let index = number_or_zero(input);
     (number_of(v) == number) & (index_of(v) == index)
 }
