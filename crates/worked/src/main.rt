@@ -3,7 +3,8 @@
 // Each line is number and index.
 #![tactic(auto)]
 
-use rules::{Plan, Refusal, Slot};
+use rules::{Plan, Slot};
+use vocabulary::{index_of, number_of};
 
 fn times(F: u16, E: u16, R: u16, X: u16, G: u16, S: u16) -> Slot {
     Slot { F, E, R, X, G, S }
@@ -18,10 +19,9 @@ fn two(N: u16, W: u16, B: u16, Q: u16, one: Slot, other: Slot) -> Plan {
 }
 
 fn tell(rt: &impl Print, p: Plan) {
-    let (number, index) = match plan::check(p) {
-        Ok(()) => (0, 0),
-        Err(Refusal { number, index }) => (number, index),
-    };
+    let verdict = plan::check(p);
+    let number = number_of(verdict);
+    let index = index_of(verdict);
     let _ = println!(rt; "{number} {index}");
 }
 

@@ -19,10 +19,10 @@ fn shade(buffer: &mut [u8]) {
 // Makes of a buffer what one should be after a write: the next bytes of the input in its front, the pattern behind them.
 fn expect_written(input: &mut impl Read, buffer: &mut [u8], len: usize) -> bool {
     shade(buffer);
-    if buffer.len() < len {
+    let Some(front) = buffer.get_mut(..len) else {
         return false;
-    }
-    fill(input, &mut buffer[..len]) == len
+    };
+    fill(input, front) == len
 }
 
 // Whether what was written, the first `len` bytes of `file`, is read as a plan that is written as these bytes again. After a
@@ -31,10 +31,10 @@ fn comes_back(file: &[u8], len: usize, again: &mut [u8]) -> bool {
     if len == 0 {
         return true;
     }
-    if file.len() < len {
+    let Some(written) = file.get(..len) else {
         return false;
-    }
-    let answer = planfile::read(&file[..len]);
+    };
+    let answer = planfile::read(written);
     let Ok(()) = answer.verdict else {
         return false;
     };
@@ -57,22 +57,15 @@ fn written_right(input: &mut impl Read, p: Plan, file: &mut [u8], other: &mut [u
     said & (answer.length == len) & same & back
 }
 
-// The next case: 0 where there is none, 1 where it comes out right, 2 where it does not.
-pub fn next_write(input: &mut impl Read, file: &mut [u8], other: &mut [u8]) -> u8 {
+// Whether the next case comes out right; none where there is no case.
+pub fn next_write(input: &mut impl Read, file: &mut [u8], other: &mut [u8]) -> Option<bool> {
     let mut plan = [0u8; PLAN_SIZE];
-    if fill(input, &mut plan) != PLAN_SIZE {
-        return 0;
+    if fill(input, &mut plan) < PLAN_SIZE {
+        return None;
     }
     let p = bodies::whole_plan(&plan);
     let room = number_or_zero(input);
-    if file.len() < room {
-        return 0;
-    }
-    if other.len() < room {
-        return 0;
-    }
-    if written_right(input, p, &mut file[..room], &mut other[..room]) {
-        return 1;
-    }
-    2
+    let file = file.get_mut(..room)?;
+    let other = other.get_mut(..room)?;
+    Some(written_right(input, p, file, other))
 }
