@@ -40,31 +40,44 @@ pub fn record_start(roll: &[u8], k: usize) -> usize
     RECORD_SIZE * k.min(records(roll))
 }
 
+// What stands behind the last whole record: the bytes left over, and then zeros.
+#[tactic(auto, unfolding(rules::specs::Run::record_at))]
+fn record_left_over(roll: &[u8]) -> Record
+    ensures { result ≡ record_at roll.now (records roll.now) }
+{
+    let at = RECORD_SIZE * records(roll);
+    Record {
+        command: byte_at(roll, at),
+        flags: byte_at(roll, at + 1),
+        willing: byte_at(roll, at + 2),
+        lost: byte_at(roll, at + 3),
+    }
+}
+
 // The record at k, counted from 0; beyond the roll's end all are zero.
+#[tactic(auto, using(crate::proofs::Far::far_record), unfolding(rules::specs::Run::record_at))]
 pub fn record_at(roll: &[u8], k: usize) -> Record
     ensures { result ≡ record_at roll.now k }
 {
-    if k > records(roll) {
+    let count = records(roll);
+    // Stays: the four bytes by index; as a pattern on the part of the roll that begins there, a run took a quarter longer.
+    if k < count {
+        let at = RECORD_SIZE * k;
         return Record {
-            command: 0,
-            flags: 0,
-            willing: 0,
-            lost: 0,
+            command: roll[at],
+            flags: roll[at + 1],
+            willing: roll[at + 2],
+            lost: roll[at + 3],
         };
     }
-    match &roll[RECORD_SIZE * k..] {
-        [command, flags, willing, lost, ..] => Record {
-            command: *command,
-            flags: *flags,
-            willing: *willing,
-            lost: *lost,
-        },
-        rest => Record {
-            command: byte_at(rest, 0),
-            flags: byte_at(rest, 1),
-            willing: byte_at(rest, 2),
-            lost: 0,
-        },
+    if k == count {
+        return record_left_over(roll);
+    }
+    Record {
+        command: 0,
+        flags: 0,
+        willing: 0,
+        lost: 0,
     }
 }
 
