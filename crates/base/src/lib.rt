@@ -1,7 +1,6 @@
 // What the supervisor does in a tick (step 3), once step 1 has moved its clocks on and the letters have gone up.
 // It only compares clocks and sets them to 0, so it takes any place and any clocks, and no public function here has a
 // `requires`; two private ones take it that i is below N.
-// `last` is what is heard from the initializer, `own` what is heard from the device i of the supervisor's place.
 #![tactic(auto)]
 
 ghost use Rattle.std.specs.Prelude.{◌≡◌, ◌≢◌, ◌-◌, ◌<◌};
@@ -9,6 +8,22 @@ ghost use Rattle.rules.specs.Yard as yard;
 ghost use Rattle.rules.specs.Tick.Step3 as step3;
 
 use rules::{Base, BaseMove, Down, Letter, Terms};
+
+// What the supervisor goes by in a tick: whether approval holds, what is heard from the initializer (`last`), and what from the
+// device i of its own place (`own`).
+#[derive(Clone, Copy)]
+pub struct Hearing {
+    pub approved: bool,
+    pub last: Option<Letter>,
+    pub own: Option<Letter>,
+}
+
+// Its two clocks, which step 1 has moved on.
+#[derive(Clone, Copy)]
+pub struct Clocks {
+    pub place: u16,
+    pub lease: u32,
+}
 
 // Every change of place sets the place clock to 0.
 fn goes(base: Base, lease: u32, down: Option<Down>) -> BaseMove
@@ -28,13 +43,13 @@ fn falls_back() -> BaseMove
     goes(Base::FallBack, 0, None)
 }
 
-fn stays(base: Base, clock: u16, lease: u32) -> BaseMove
-    ensures { result ≡ step3.stays base clock lease }
+fn stays(base: Base, clocks: Clocks) -> BaseMove
+    ensures { result ≡ step3.stays base clocks.place clocks.lease }
 {
     BaseMove {
         base,
-        clock,
-        lease,
+        clock: clocks.place,
+        lease: clocks.lease,
         down: None,
     }
 }
@@ -78,103 +93,72 @@ fn leases(t: Terms, i: u8, lease: u32) -> BaseMove
 }
 
 #[tactic(auto, unfolding(rules::specs::Tick::Step3::in_fall_back))]
-fn in_fall_back(t: Terms, approved: bool, last: Option<Letter>, clock: u16, lease: u32) -> BaseMove
-    ensures { result ≡ step3.in_fall_back t approved last clock lease }
+fn in_fall_back(t: Terms, heard: Hearing, clocks: Clocks) -> BaseMove
+    ensures { result ≡ step3.in_fall_back t heard.approved heard.last clocks.place clocks.lease }
 {
-    if (last == Some(Letter::Request)) & (clock == t.B) & approved {
+    if (heard.last == Some(Letter::Request)) & (clocks.place == t.B) & heard.approved {
         return goes(Base::Lease(1), 0, Some(Down::LeaseReq(1)));
     }
-    stays(Base::FallBack, clock, lease)
+    stays(Base::FallBack, clocks)
 }
 
 #[tactic(auto, unfolding(rules::specs::Tick::Step3::in_lease))]
-fn in_lease(
-    t: Terms,
-    approved: bool,
-    last: Option<Letter>,
-    own: Option<Letter>,
-    i: u8,
-    clock: u16,
-    lease: u32,
-) -> BaseMove
+fn in_lease(t: Terms, heard: Hearing, i: u8, clocks: Clocks) -> BaseMove
     requires { i < t.N }
-    ensures { result ≡ step3.in_lease t approved last own i clock lease }
+    ensures { result ≡ step3.in_lease t heard.approved heard.last heard.own i clocks.place clocks.lease }
 {
-    if !approved {
-        return aborts(i, lease);
+    if !heard.approved {
+        return aborts(i, clocks.lease);
     }
-    if last == Some(Letter::Cancel) {
-        return cancels(i, lease);
+    if heard.last == Some(Letter::Cancel) {
+        return cancels(i, clocks.lease);
     }
-    match own {
-        Some(Letter::Approve) => leases(t, i, lease),
-        Some(Letter::Deny) => below(cancels, i, lease),
-        _ if clock == t.W => cancels(i, lease),
-        _ => stays(Base::Lease(i), clock, lease),
+    match heard.own {
+        Some(Letter::Approve) => leases(t, i, clocks.lease),
+        Some(Letter::Deny) => below(cancels, i, clocks.lease),
+        _ if clocks.place == t.W => cancels(i, clocks.lease),
+        _ => stays(Base::Lease(i), clocks),
     }
 }
 
 #[tactic(auto, unfolding(rules::specs::Tick::Step3::in_lease_n))]
-fn in_lease_n(
-    approved: bool,
-    last: Option<Letter>,
-    own: Option<Letter>,
-    i: u8,
-    clock: u16,
-    lease: u32,
-) -> BaseMove
-    ensures { result ≡ step3.in_lease_n approved last own i clock lease }
+fn in_lease_n(heard: Hearing, i: u8, clocks: Clocks) -> BaseMove
+    ensures { result ≡ step3.in_lease_n heard.approved heard.last heard.own i clocks.place clocks.lease }
 {
-    if own == Some(Letter::Exit) {
-        return cancels(i.saturating_sub(1), lease);
+    if heard.own == Some(Letter::Exit) {
+        return cancels(i.saturating_sub(1), clocks.lease);
     }
-    if !approved {
-        return aborts(i, lease);
+    if !heard.approved {
+        return aborts(i, clocks.lease);
     }
-    if last == Some(Letter::Cancel) {
-        return cancels(i, lease);
+    if heard.last == Some(Letter::Cancel) {
+        return cancels(i, clocks.lease);
     }
-    stays(Base::Lease(i), clock, lease)
+    stays(Base::Lease(i), clocks)
 }
 
 // The place while a lease runs: below N on to the next device, at N waiting for its exit.
 #[tactic(auto, unfolding(rules::specs::Tick::Step3::leasing))]
-fn leasing(
-    t: Terms,
-    approved: bool,
-    last: Option<Letter>,
-    own: Option<Letter>,
-    i: u8,
-    clock: u16,
-    lease: u32,
-) -> BaseMove
-    ensures { result ≡ step3.leasing t approved last own i clock lease }
+fn leasing(t: Terms, heard: Hearing, i: u8, clocks: Clocks) -> BaseMove
+    ensures { result ≡ step3.leasing t heard.approved heard.last heard.own i clocks.place clocks.lease }
 {
     if i < t.N {
-        return in_lease(t, approved, last, own, i, clock, lease);
+        return in_lease(t, heard, i, clocks);
     }
-    in_lease_n(approved, last, own, i, clock, lease)
+    in_lease_n(heard, i, clocks)
 }
 
 // The supervisor's move. The lease clock at LS comes before approval and before every letter.
 #[tactic(auto, unfolding(rules::specs::Tick::Step3::base_move, rules::specs::Tick::Step3::cancelling, rules::specs::Tick::Step3::aborting))]
-pub fn base_move(
-    t: Terms,
-    approved: bool,
-    last: Option<Letter>,
-    own: Option<Letter>,
-    base: Base,
-    clock: u16,
-    lease: u32,
-) -> BaseMove
-    ensures { result ≡ step3.base_move t approved last own base clock lease }
+pub fn base_move(t: Terms, heard: Hearing, base: Base, clocks: Clocks) -> BaseMove
+    ensures { result ≡ step3.base_move t heard.approved heard.last heard.own base clocks.place clocks.lease }
 {
     match base {
-        Base::FallBack => in_fall_back(t, approved, last, clock, lease),
-        _ if lease == t.LS => falls_back(),
-        Base::Lease(i) => leasing(t, approved, last, own, i, clock, lease),
-        Base::Cancel(i) if own == Some(Letter::Exit) => below(cancels, i, lease),
-        Base::Abort(i) if own == Some(Letter::Exit) => below(aborts, i, lease),
-        Base::Cancel(_) | Base::Abort(_) => stays(base, clock, lease),
+        Base::FallBack => in_fall_back(t, heard, clocks),
+        _ if clocks.lease == t.LS => falls_back(),
+        Base::Lease(i) => leasing(t, heard, i, clocks),
+        Base::Cancel(i) if heard.own == Some(Letter::Exit) => below(cancels, i, clocks.lease),
+        Base::Abort(i) if heard.own == Some(Letter::Exit) => below(aborts, i, clocks.lease),
+        Base::Cancel(_) | Base::Abort(_) => stays(base, clocks),
     }
 }
