@@ -20,6 +20,7 @@ pub struct Span {
     pub len: usize,
 }
 
+// Stays: a verdict beside a plan, and no `Result`: "a refused file gives an all-zero plan" (`read_answer`).
 #[derive(Clone, Copy)]
 pub struct ReadAnswer {
     pub verdict: Verdict,
@@ -27,6 +28,7 @@ pub struct ReadAnswer {
 }
 
 // What the writer answers: the verdict, and how many bytes it wrote.
+// Stays: a verdict beside a length, and no `Result`: a refusal answers the length 0 too (`write_answer`).
 #[derive(Clone, Copy)]
 pub struct WriteAnswer {
     pub verdict: Verdict,

@@ -43,6 +43,7 @@ pub struct Reader {
     pub plan: Plan,
 }
 
+// Stays: a verdict beside a plan, and no `Result`: a refused text gives an all-zero plan (`text_answer`).
 #[derive(Clone, Copy)]
 pub struct TextAnswer {
     pub verdict: Verdict,

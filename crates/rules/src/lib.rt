@@ -1,6 +1,6 @@
 // The types of document 01: what a plan, a yard, a record and an answer are made of.
-// There is no running code here. specs/ has document 01 as definitions over these types, proofs/ the theorems that keep
-// the definitions honest, and the crates above have the calls.
+// There is no running code here but what the derives write. specs/ has document 01 as definitions over these types, proofs/ the
+// theorems that keep the definitions honest, and the crates above have the calls.
 //
 // The first variant of each enum is the one of a fresh yard. Single capitals are document 01's own names.
 #![tactic(auto)]
@@ -122,6 +122,8 @@ pub struct BaseMove {
     pub down: Option<Down>,
 }
 
+// Stays: a verdict beside a value in each answer below, and no `Result` of the value: document 01's refusals answer the value too,
+// a fresh yard, or the yard as it was given and 0 ticks (`fresh_answer`, `tick_answer`, `run_answer`).
 #[derive(Clone, Copy)]
 pub struct FreshAnswer {
     pub verdict: Verdict,
