@@ -21,6 +21,7 @@ ghost use Rattle.yard.specs.Sent.{last_down};
 use crate::bits::{engaged_byte, rebit};
 use crate::clocks::{lease_clock, place_clock};
 use crate::rising::{pace_of, rise};
+use base::{Clocks, Hearing};
 use lease::lease_length;
 use pace::{arrive, bit, index_of, listen, own_index, reached};
 use rolls::record_at;
@@ -50,9 +51,16 @@ fn supervise(
     requires { (s.clock ≤ 36000) × (s.lease ≤ 108000) }
     ensures { result ≡ base_move t (bits.bit flags 0) last own s.base (place_clock t s.base s.clock) (lease_clock s.base s.lease) }
 {
-    let clock = place_clock(t, s.base, s.clock);
-    let lease = lease_clock(s.base, s.lease);
-    base::base_move(t, bit(flags, 0), last, own, s.base, clock, lease)
+    let heard = Hearing {
+        approved: bit(flags, 0),
+        last,
+        own,
+    };
+    let clocks = Clocks {
+        place: place_clock(t, s.base, s.clock),
+        lease: lease_clock(s.base, s.lease),
+    };
+    base::base_move(t, heard, s.base, clocks)
 }
 
 // The state at the end of some ticks, and the down letter that was sent in the last.
