@@ -5,7 +5,6 @@ ghost use Rattle.laws.specs.Written.{Written};
 ghost use Rattle.layout_rules.specs.Bytes.{device_bytes, devices_bytes, device_start, yard_size, yard_written};
 
 use numbers::read::two;
-use numbers::widths::long_byte;
 use numbers::write::{put_four, put_two};
 use rules::{Device, Yard};
 use vocabulary::{base_index, base_number, letter_number, place_number};
@@ -16,7 +15,7 @@ pub const YARD_SIZE: usize = 40;
 pub fn device_start(k: u8) -> usize
     ensures { result ≡ device_start (k + 1) }
 {
-    8 + 4 * long_byte(k)
+    8 + 4 * usize::from(k)
 }
 
 fn put_pair(first: u8, second: u8, out: &mut [u8], at: usize)
@@ -28,20 +27,16 @@ fn put_pair(first: u8, second: u8, out: &mut [u8], at: usize)
 fn put_device(d: Device, out: &mut [u8], k: u8)
     ensures { Written out.old (device_start (k + 1)) (device_bytes d) out.new (device_start (k + 1) + 4) }
 {
-    let place = d.place;
-    let letter = d.letter;
     let at = device_start(k);
     put_two(d.clock, out, at);
-    put_pair(place_number(place), letter_number(letter), out, at + 2);
+    put_pair(place_number(d.place), letter_number(d.letter), out, at + 2);
 }
 
 fn put_devices(devices: [Device; 8], out: &mut [u8])
     ensures { Written out.old (device_start 1) (devices_bytes devices 8) out.new yard_size }
 {
-    let mut k: u8 = 0;
-    while k < 8 {
-        put_device(devices[long_byte(k)], out, k);
-        k += 1;
+    for k in 0..8 {
+        put_device(devices[usize::from(k)], out, k);
     }
 }
 
@@ -54,11 +49,9 @@ pub fn put(y: Yard, out: &mut [u8]) -> usize
     if out.len() < YARD_SIZE {
         return 0;
     }
-    let base = y.base;
-    let devices = y.devices;
-    put_pair(base_number(base), base_index(base), out, 0);
+    put_pair(base_number(y.base), base_index(y.base), out, 0);
     put_two(y.clock, out, 2);
     put_four(y.lease, out, 4);
-    put_devices(devices, out);
+    put_devices(y.devices, out);
     YARD_SIZE
 }

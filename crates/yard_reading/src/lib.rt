@@ -11,7 +11,6 @@ ghost use Rattle.layout_rules.specs.Reading.{base_stands, device_stands, is_yard
 use device::fresh_device;
 use layout::yard::{YARD_SIZE, device_start};
 use numbers::read::{byte_at, four_at, two_at};
-use numbers::widths::long_byte;
 use rules::{Base, Device, Yard};
 use vocabulary::{base_of, letter_of, place_of};
 
@@ -31,13 +30,7 @@ fn device_stands(bytes: &[u8], k: u8) -> bool
 fn devices_stand(bytes: &[u8]) -> bool
     ensures { result ≡ each (device_stands bytes.now) 8 }
 {
-    let mut all = true;
-    let mut k: u8 = 0;
-    while k < 8 {
-        all = all & device_stands(bytes, k);
-        k += 1;
-    }
-    all
+    (0..8).all(|k| device_stands(bytes, k))
 }
 
 // The length is looked at first and by itself: whoever reads a byte behind that need not ask for it again, which halves the time
@@ -58,6 +51,7 @@ fn fresh_devices() -> [Device; 8]
 }
 
 // What other bytes are read as: no plan takes it, for there is no device 0.
+#[tactic(auto, unfolding(layout_rules::specs::Reading::no_yard))]
 fn no_yard() -> Yard
     ensures { result ≡ no_yard }
 {
@@ -69,6 +63,7 @@ fn no_yard() -> Yard
     }
 }
 
+#[tactic(auto, unfolding(layout_rules::specs::Reading::device_in))]
 fn device_in(bytes: &[u8], k: u8) -> Device
     ensures { result ≡ device_in bytes.now (k + 1) }
 {
@@ -84,15 +79,14 @@ fn devices_in(bytes: &[u8]) -> [Device; 8]
     ensures { result ≡ tabulate (device_in bytes.now) 8 }
 {
     let mut devices = fresh_devices();
-    let mut k: u8 = 0;
-    while k < 8 {
-        devices[long_byte(k)] = device_in(bytes, k);
-        k += 1;
+    for k in 0..8 {
+        devices[usize::from(k)] = device_in(bytes, k);
     }
     devices
 }
 
 // The yard that the bytes start with; of too few bytes, and of malformed ones, a yard that is well formed under no plan.
+#[tactic(auto, unfolding(layout_rules::specs::Reading::yard_in, layout_rules::specs::Reading::yard_of))]
 pub fn read(bytes: &[u8]) -> Yard
     ensures { result ≡ yard_of bytes.now }
 {
