@@ -4,5 +4,4 @@
 #![tactic(auto)]
 
 pub mod read;
-pub mod widths;
 pub mod write;
