@@ -2,11 +2,11 @@
 // `exports` hands them out as numbers and bytes. No function here has a `requires`.
 #![tactic(auto)]
 
-ghost use Rattle.std.specs.Prelude.{◌≡◌, length, take};
+ghost use Rattle.std.specs.Prelude.{◌≡◌, ◌&&◌, length, take};
 ghost use Rattle.rules.specs.Verdict.{Accepted};
 ghost use Rattle.planfile_rules.specs.File.{whole_plan};
 ghost use Rattle.planfile_rules.specs.Writing.{ReadAs};
-ghost use Rattle.exports_rules.specs.Asked.{KeptBy, check_for, fresh_for, tick_for, run_for, engaged_for, read_for, write_for, file_for, list_for, text_for};
+ghost use Rattle.exports_rules.specs.Asked.{KeptBy, size_verdict, fits_plan, fits_yard, check_for, fresh_for, tick_for, run_for, engaged_for, read_for, write_for, file_for, list_for, text_for};
 
 use answers::size_verdict;
 use bodies::PLAN_SIZE;
@@ -15,6 +15,14 @@ use listing_rules::Listed;
 use planfile_rules::{ReadAnswer, WriteAnswer};
 use rules::{FreshAnswer, Record, RunAnswer, TickAnswer, Verdict};
 
+// 27 where a plan is lent at another length than its own, or a yard.
+fn sizes(plan: &[u8], room: usize) -> Verdict
+    ensures { result ≡ size_verdict (fits_plan (length plan.now) && fits_yard room) }
+{
+    size_verdict((plan.len() == PLAN_SIZE) & (room == YARD_SIZE))
+}
+
+#[tactic(auto, unfolding(exports_rules::specs::Asked::check_for))]
 pub fn check_for(plan: &[u8]) -> Verdict
     ensures { result ≡ check_for plan.now }
 {
@@ -22,37 +30,33 @@ pub fn check_for(plan: &[u8]) -> Verdict
     plan::check(bodies::whole_plan(plan))
 }
 
+#[tactic(auto, unfolding(exports_rules::specs::Asked::fresh_for, rules::specs::Yard::fresh_answer))]
 pub fn fresh_for(plan: &[u8], room: usize) -> FreshAnswer
     ensures { result ≡ fresh_for plan.now room }
 {
-    let a = yard::fresh(bodies::whole_plan(plan));
-    let yard = a.yard;
-    let size = size_verdict((plan.len() == PLAN_SIZE) & (room == YARD_SIZE));
-    let Ok(()) = size else {
-        return FreshAnswer {
-            verdict: size,
-            yard,
-        };
-    };
-    a
+    let answer = yard::fresh(bodies::whole_plan(plan));
+    match sizes(plan, room) {
+        Ok(()) => answer,
+        verdict => FreshAnswer { verdict, ..answer },
+    }
 }
 
+#[tactic(auto, unfolding(exports_rules::specs::Asked::tick_for))]
 pub fn tick_for(plan: &[u8], bytes: &[u8], r: Record) -> TickAnswer
     ensures { result ≡ tick_for plan.now bytes.now r }
 {
-    let p = bodies::whole_plan(plan);
     let yard = yard_reading::read(bytes);
-    let size = size_verdict((plan.len() == PLAN_SIZE) & (bytes.len() == YARD_SIZE));
-    let Ok(()) = size else {
-        return TickAnswer {
-            verdict: size,
+    match sizes(plan, bytes.len()) {
+        Ok(()) => yard::tick(bodies::whole_plan(plan), yard, r),
+        verdict => TickAnswer {
+            verdict,
             yard,
             down: None,
-        };
-    };
-    yard::tick(p, yard, r)
+        },
+    }
 }
 
+#[tactic(auto, using(exports_rules::proofs::Sizes::nothing_done), unfolding(exports_rules::specs::Asked::run_for, exports_rules::specs::Asked::engaged_for))]
 pub fn run_for(
     plan: &[u8],
     bytes: &[u8],
@@ -64,64 +68,53 @@ pub fn run_for(
     ensures engaged_after { engaged.new ≡ engaged_for plan.now bytes.now roll.now budget engaged.old }
     ensures kept { KeptBy plan.now bytes.now engaged.new result.ticks }
 {
-    let p = bodies::whole_plan(plan);
     let yard = yard_reading::read(bytes);
-    let size = size_verdict((plan.len() == PLAN_SIZE) & (bytes.len() == YARD_SIZE));
-    let Ok(()) = size else {
-        return RunAnswer {
-            verdict: size,
+    match sizes(plan, bytes.len()) {
+        Ok(()) => yard::run(bodies::whole_plan(plan), yard, roll, budget, engaged),
+        verdict => RunAnswer {
+            verdict,
             yard,
             ticks: 0,
-        };
-    };
-    yard::run(p, yard, roll, budget, engaged)
+        },
+    }
 }
 
+#[tactic(auto, unfolding(exports_rules::specs::Asked::read_for))]
 pub fn read_for(file: &[u8], room: usize) -> ReadAnswer
     ensures { result ≡ read_for file.now room }
 {
-    let a = planfile::read(file);
-    let plan = a.plan;
-    let size = size_verdict(room == PLAN_SIZE);
-    let Ok(()) = size else {
-        return ReadAnswer {
-            verdict: size,
-            plan,
-        };
-    };
-    a
+    let answer = planfile::read(file);
+    match size_verdict(room == PLAN_SIZE) {
+        Ok(()) => answer,
+        verdict => ReadAnswer { verdict, ..answer },
+    }
 }
 
+#[tactic(auto, unfolding(exports_rules::specs::Asked::write_for, exports_rules::specs::Asked::file_for))]
 pub fn write_for(plan: &[u8], file: &mut [u8]) -> WriteAnswer
     ensures value { result ≡ write_for plan.now (length file.old) }
     ensures file_after { file.new ≡ file_for plan.now file.old }
     ensures read_as { result.verdict ≡ Accepted → ReadAs (take result.length file.new) (whole_plan plan.now) }
 {
-    let p = bodies::whole_plan(plan);
-    let size = size_verdict(plan.len() == PLAN_SIZE);
-    let Ok(()) = size else {
-        return WriteAnswer {
-            verdict: size,
-            length: 0,
-        };
-    };
-    planfile::write(p, file)
+    match size_verdict(plan.len() == PLAN_SIZE) {
+        Ok(()) => planfile::write(bodies::whole_plan(plan), file),
+        verdict => WriteAnswer { verdict, length: 0 },
+    }
 }
 
+#[tactic(auto, unfolding(exports_rules::specs::Asked::list_for, exports_rules::specs::Asked::text_for))]
 pub fn list_for(plan: &[u8], bytes: &[u8], roll: &[u8], first: u32, out: &mut [u8]) -> Listed
     ensures value { result ≡ list_for plan.now bytes.now roll.now first (length out.old) }
     ensures out_after { out.new ≡ text_for plan.now bytes.now roll.now first out.old }
 {
-    let p = bodies::whole_plan(plan);
     let yard = yard_reading::read(bytes);
-    let size = size_verdict((plan.len() == PLAN_SIZE) & (bytes.len() == YARD_SIZE));
-    let Ok(()) = size else {
-        return Listed {
-            verdict: size,
+    match sizes(plan, bytes.len()) {
+        Ok(()) => listing::list(bodies::whole_plan(plan), yard, roll, first, out),
+        verdict => Listed {
+            verdict,
             yard,
             ticks: 0,
             length: 0,
-        };
-    };
-    listing::list(p, yard, roll, first, out)
+        },
+    }
 }

@@ -8,6 +8,7 @@ use std::{fs, io};
 
 // Reads to the file's end, or to the buffer's, and answers how many bytes; an error where a read fails, since what came before
 // it is not the file. Each turn reads a byte or more, so there are as many as the buffer has bytes.
+// Stays: `case_input` has such a loop, but what that read before a read failed counts; here the error is handed on by `?`, to be told.
 fn fill(file: &mut impl Read, buffer: &mut [u8]) -> io::Result<usize>
     ensures { IfOk result (λ done. done ≤ length buffer.new) }
 {
@@ -29,20 +30,18 @@ fn open_and_fill(rt: &impl Files, path: &str, buffer: &mut [u8]) -> io::Result<u
     fill(&mut file, buffer)
 }
 
-// The bytes of a file, as many as the buffer holds; it answers how many. A file that cannot be opened, or read to its end, has
-// none, and a line on standard error says why. A path that is no text names no file.
-pub(crate) fn load(rt: &(impl Files + Eprint), path: &[u8], buffer: &mut [u8]) -> usize
-    ensures { result ≤ length buffer.new }
-{
+// The bytes of a file, as many as the buffer holds, at its front. A file that cannot be opened, or read to its end, has none, and
+// a line on standard error says why. A path that is no text names no file.
+pub(crate) fn load<'a>(rt: &(impl Files + Eprint), path: &[u8], buffer: &'a mut [u8]) -> &'a [u8] {
     let Ok(name) = str::from_utf8(path) else {
         let _ = eprintln!(rt; "a file's path is no text");
-        return 0;
+        return &[];
     };
     match open_and_fill(rt, name, buffer) {
-        Ok(len) => len,
+        Ok(len) => &buffer[..len],
         Err(e) => {
             tell(rt, name, e);
-            0
+            &[]
         }
     }
 }

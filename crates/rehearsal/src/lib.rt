@@ -13,34 +13,26 @@ use std::io;
 use std::rt::Files;
 use trouble::tell;
 
-// The first `len` bytes of a block, if it has them.
-fn say_first(rt: &impl Print, block: &[u8], len: usize) -> io::Result<()> {
-    if block.len() < len {
-        return Ok(());
-    }
-    rt.write_all(&block[..len])
-}
-
 // The roll's lines, block after block. Each block but the last holds at least a thousand lines, so the turns are enough.
 fn say_lines(rt: &impl Print, p: Plan, fresh: Yard, roll: &[u8]) -> io::Result<()> {
     let mut block = [0u8; 65536];
     let mut y = fresh;
-    let mut from: usize = 0;
+    let mut rest = roll;
     let mut first: u32 = 0;
     for _ in 0..100 {
-        if roll.len() < from {
-            break;
-        }
-        let rest = &roll[from..];
         let l = listing::list(p, y, rest, first, &mut block);
-        let ticks = l.ticks;
-        if ticks == 0 || 10000 < ticks {
+        if l.ticks == 0 || 10000 < l.ticks {
             break;
         }
-        say_first(rt, &block, l.length)?;
+        if let Some(lines) = block.get(..l.length) {
+            rt.write_all(lines)?;
+        }
+        let Some(behind) = rest.get(rolls::record_start(rest, l.ticks)..) else {
+            break;
+        };
         y = l.yard;
-        from = from.wrapping_add(rolls::record_start(rest, ticks));
-        first = first.wrapping_add(ticks as u32);
+        rest = behind;
+        first = first.wrapping_add(l.ticks as u32);
     }
     Ok(())
 }
@@ -48,10 +40,14 @@ fn say_lines(rt: &impl Print, p: Plan, fresh: Yard, roll: &[u8]) -> io::Result<(
 fn say_header(rt: &impl Print, n: u16) -> io::Result<()> {
     let mut block = [0u8; listing::LINE_ROOM];
     let len = listing::header(n, &mut block, 0);
-    say_first(rt, &block, len)
+    if let Some(header) = block.get(..len) {
+        rt.write_all(header)?;
+    }
+    Ok(())
 }
 
 fn refuse(rt: &impl Print, refusal: Refusal) -> io::Result<()> {
+    // Stays: `impl Display for Refusal` would have to stand in `rules`, which has no running code; these two lines are as plain.
     let Refusal { number, index } = refusal;
     println!(rt; "refused {number} {index}")
 }
@@ -81,9 +77,9 @@ fn show(rt: &impl Print, file: &[u8], roll: &[u8]) -> io::Result<()> {
 pub fn rehearse_files(rt: &(impl Files + Print + Eprint), plan_path: &[u8], roll_path: &[u8]) {
     let mut file = [0u8; 65537];
     let mut roll = [0u8; 40000];
-    let file_len = load(rt, plan_path, &mut file);
-    let roll_len = load(rt, roll_path, &mut roll);
-    if let Err(e) = show(rt, &file[..file_len], &roll[..roll_len]) {
+    let file = load(rt, plan_path, &mut file);
+    let roll = load(rt, roll_path, &mut roll);
+    if let Err(e) = show(rt, file, roll) {
         tell(rt, "standard output", e);
     }
 }

@@ -7,6 +7,7 @@ use text::Pen;
 const ROOM: usize = 128;
 
 // An error as text, in a buffer.
+// Stays: DECISIONS 52, no heap; `String` needs one, and a writer over a slice, as `io::Cursor`, takes bytes and not `fmt::Write`.
 #[derive(Drop)]
 struct Words {
     text: [u8; ROOM],
@@ -31,10 +32,8 @@ impl Words {
     // The system's words alone: std puts the number of the error behind them.
     fn without_number(&self) -> &str {
         let all = self.all();
-        match all.split_once(" (os error ") {
-            Some((words, _)) => words,
-            None => all,
-        }
+        all.split_once(" (os error ")
+            .map_or(all, |(words, _)| words)
     }
 }
 
