@@ -28,11 +28,9 @@ fn tell(rt: &(impl Files + Print + Eprint), name: &[u8]) {
 fn main(rt: HostRuntime) {
     let mut names = [0u8; 1024];
     let len = fill(&mut rt.reader(), &mut names);
-    let mut from: usize = 0;
-    for k in 0..len {
-        if names[k] == b'\n' {
-            tell(&rt, &names[from..k]);
-            from = k + 1;
+    for line in names[..len].split_inclusive(|b| *b == b'\n') {
+        if let Some(name) = line.strip_suffix(b"\n") {
+            tell(&rt, name);
         }
     }
 }

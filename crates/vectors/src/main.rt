@@ -15,13 +15,13 @@ use reads::next_read;
 use std::io::Read;
 use write_cases::next_write;
 
-// The next case: 0 where there is none, 1 where it comes out right, 2 where it does not. At the input's end the kind reads as
-// 0, and no file follows.
-fn next_case(input: &mut impl Read, file: &mut [u8], roll: &mut [u8]) -> u8 {
+// Whether the next case comes out right; none where there is no case. At the input's end the kind reads as 0, and no file
+// follows.
+fn next_case(input: &mut impl Read, file: &mut [u8], roll: &mut [u8]) -> Option<bool> {
     match byte(input) {
         0 => next_read(input, file, roll),
         1 => next_write(input, file, roll),
-        _ => 0,
+        _ => None,
     }
 }
 
@@ -33,12 +33,11 @@ fn main(rt: HostRuntime) {
     let mut cases = 0u64;
     let mut wrong = 0u64;
     for _ in 0..1_000_000 {
-        let c = next_case(&mut input, &mut file, &mut roll);
-        if c == 0 {
+        let Some(right) = next_case(&mut input, &mut file, &mut roll) else {
             break;
-        }
+        };
         cases = cases.wrapping_add(1);
-        if c == 2 {
+        if !right {
             wrong = wrong.wrapping_add(1);
         }
     }
