@@ -1,11 +1,6 @@
 -- A device that has no letter, heeds no command and for which nothing falls due: only its clock moves.
-use Rattle.std.specs.Prelude.{Option, Some, None, is_some}
-use Prim.Native.Nat.{ℕ, ◌+◌, ◌<◌}
-use native.Mathlib.Omega.{arith}
-use mathlib.Core.Path.{◌≡◌, refl}
-use mathlib.Core.Bool.{true, false, not}
-use lib.Dec.{eqb}
-use borrow.Author.Tests.{ne_eqb, lt-ltb, eqb-true, eqb-false, leb-false, not-false}
+use Rattle.std.proofs.Common.{Option, Some, None, is_some, ℕ, ◌+◌, ◌<◌, arith, ◌≡◌, refl, true, false, not, eqb, ne_eqb, lt-ltb, eqb-true, leb-false}
+use borrow.Author.Tests.{eqb-false, not-false}
 use denote.Enum.Bare.{sameb}
 use Rattle.rules.specs.contracts.Place.{the_type}
 use Rattle.laws.proofs.Tests.{case, or_none}

@@ -74,6 +74,7 @@ pub struct Risen {
     pub heard: Option<Letter>,
 }
 
+// Stays: seven parameters: `device::moved`, which document 01's step 2 is, takes the first four and the device.
 // The device at i, whose clock has moved: it moves, and its letter goes up, and is lost where bit i of `lost` says so.
 pub fn goes_up(
     q: u16,

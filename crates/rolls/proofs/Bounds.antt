@@ -1,9 +1,5 @@
 -- The bytes whose bits k and up are zero are those below 2 ^ k, which from 8 on are all of them.
-use Rattle.std.proofs.Common.{ℕ, ◌*◌, ◌%◌, ◌^◌, ◌≤◌, ◌<◌, ◌≡◌, sym, ◌∙◌, refl, min, arith}
-use native.Mathlib.Nat.{lt_of_lt_of_le}
-use lib.Dec.{leb, ltb}
-use lib.Pow.{pow_mono}
-use borrow.Author.Tests.{lt-ltb, leb-true, leb-false}
+use Rattle.std.proofs.Common.{ℕ, ◌*◌, ◌%◌, ◌^◌, ◌≤◌, ◌<◌, ◌≡◌, sym, ◌∙◌, refl, min, arith, lt_of_lt_of_le, leb, ltb, pow_mono, lt-ltb, leb-true, leb-false}
 use Rattle.laws.proofs.Tests.{case}
 use Rattle.laws.specs.Bits.{clear_from}
 use Rattle.rolls.specs.Bounds.{Bound}

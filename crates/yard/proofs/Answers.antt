@@ -1,12 +1,6 @@
 -- What an answer that is no refusal tells, and what the answers then are.
-use Rattle.std.specs.Prelude.{Option, Err}
-use Prim.Native.Nat.{ℕ, ◌≤◌}
-use mathlib.Core.Path.{◌≡◌, sym, ◌∙◌}
-use mathlib.Core.Bool.{true}
-use mathlib.Core.List.{List, [], ◌∷◌, ◌++◌}
-use lib.Dec.{ltb}
-use lib.ListN.{length, drop}
-use borrow.Author.Tests.{not-false, ltb-false}
+use Rattle.std.proofs.Common.{Option, Err, ℕ, ◌≤◌, ◌≡◌, sym, ◌∙◌, true, List, [], ◌∷◌, ◌++◌, ltb, length, drop, ltb-false}
+use borrow.Author.Tests.{not-false}
 use Rattle.rules.specs.declared.Plan.{Plan}
 use Rattle.rules.specs.declared.Yard.{Yard}
 use Rattle.rules.specs.declared.Record.{Record}

@@ -1,13 +1,6 @@
 -- Step 4 reaches one device or none, and moves none into or out of being engaged.
-use Rattle.std.specs.Prelude.{Option, Some, None}
-use Prim.Native.Nat.{ℕ, ◌-◌, ◌≤◌}
-use native.Mathlib.Omega.{arith}
-use mathlib.Core.Path.{◌≡◌, refl, sym, ◌∙◌, ap}
-use mathlib.Core.Bool.{Bool, true, false, not, ◌&&◌}
-use mathlib.Core.List.{List}
-use lib.Dec.{eqb, leb}
-use lib.ListN.{length, set}
-use borrow.Author.Tests.{le-leb, leb-true, ne_eqb, eqb-false, not-true}
+use Rattle.std.proofs.Common.{Option, Some, None, ℕ, ◌-◌, ◌≤◌, arith, ◌≡◌, refl, sym, ◌∙◌, ap, Bool, true, false, not, ◌&&◌, List, eqb, leb, length, set, le-leb, leb-true, ne_eqb}
+use borrow.Author.Tests.{eqb-false, not-true}
 use Rattle.laws.specs.Bits.{bit}
 use Rattle.laws.proofs.Tests.{case, and_hold}
 use Rattle.rules.specs.Numbers.{down_index}

@@ -1,15 +1,5 @@
 -- The byte of the devices that are engaged, when one device changes.
-use Prim.Native.Nat.{ℕ, zero, suc, ◌+◌, ◌^◌, ◌≤◌, ◌<◌}
-use native.Mathlib.Omega.{arith}
-use native.Mathlib.Numerals.{add-one}
-use mathlib.Core.Path.{◌≡◌, refl, sym, ap}
-use mathlib.Core.Bool.{Bool, cond}
-use mathlib.Core.List.{List}
-use lib.Dec.{eqb}
-use lib.ListN.{length, get_or, set}
-use lib.Pow.{pow_mono}
-use lib.Seq.{get_or-set_same, get_or-set_other}
-use borrow.Author.Tests.{eqb-true}
+use Rattle.std.proofs.Common.{ℕ, zero, suc, ◌+◌, ◌^◌, ◌≤◌, ◌<◌, arith, add-one, ◌≡◌, refl, sym, ap, Bool, cond, List, eqb, length, get_or, set, pow_mono, get_or-set_same, get_or-set_other, eqb-true}
 use Rattle.laws.specs.Bits.{of_bits}
 use Rattle.laws.proofs.Bits.{of_bits_below, of_bits_same}
 use Rattle.laws.proofs.Tests.{case, tests}

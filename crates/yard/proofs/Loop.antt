@@ -1,12 +1,5 @@
 -- What the loop over ticks knows before each, and one tick more.
-use Rattle.std.specs.Prelude.{Option}
-use Prim.Native.Nat.{ℕ, ◌+◌, ◌<◌}
-use native.Mathlib.Omega.{arith}
-use native.Mathlib.Numerals.{add-one}
-use mathlib.Core.Path.{◌≡◌, refl, ◌∙◌}
-use mathlib.Core.Bool.{true}
-use mathlib.Core.List.{List, ◌++◌}
-use lib.ListN.{length, drop, set, length-set}
+use Rattle.std.proofs.Common.{Option, ℕ, ◌+◌, ◌<◌, arith, add-one, ◌≡◌, refl, ◌∙◌, true, List, ◌++◌, length, drop, set, length-set}
 use Rattle.laws.proofs.Lists.{write_next, swept_length}
 use Rattle.rules.specs.declared.Plan.{Plan}
 use Rattle.rules.specs.declared.Yard.{Yard}

@@ -1,12 +1,5 @@
 -- One tick as this crate computes it is the tick of document 01.
-use Rattle.std.specs.Prelude.{Option}
-use Prim.Native.Nat.{ℕ, ◌+◌, ◌-◌, ◌≤◌}
-use native.Mathlib.Omega.{arith}
-use mathlib.Core.Path.{◌≡◌, refl, sym, ◌∙◌, ap}
-use mathlib.Core.Bool.{cond}
-use mathlib.Core.List.{List}
-use lib.Dec.{leb}
-use borrow.Author.Tests.{leb-true, leb-false, lt-ltb}
+use Rattle.std.proofs.Common.{Option, ℕ, ◌+◌, ◌-◌, ◌≤◌, arith, ◌≡◌, refl, sym, ◌∙◌, ap, cond, List, leb, leb-true, leb-false, lt-ltb}
 use Rattle.laws.proofs.Tests.{case}
 use Rattle.laws.proofs.Lists.{tabulate_same}
 use Rattle.rules.specs.declared.Plan.{Plan}

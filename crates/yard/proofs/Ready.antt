@@ -1,11 +1,5 @@
 -- A well-formed state under an accepted plan is ready for a tick.
-use Prim.Native.Nat.{ℕ, ◌+◌, ◌-◌, ◌≤◌, ◌<◌}
-use native.Mathlib.Omega.{arith}
-use mathlib.Core.Path.{◌≡◌}
-use mathlib.Core.Bool.{true}
-use lib.Dec.{leb, ltb}
-use lib.ListN.{get_or}
-use borrow.Author.Tests.{ltb-true, ltb-false, leb-true, leb-false}
+use Rattle.std.proofs.Common.{ℕ, ◌+◌, ◌-◌, ◌≤◌, ◌<◌, arith, ◌≡◌, true, leb, ltb, get_or, ltb-true, ltb-false, leb-true, leb-false}
 use Rattle.laws.proofs.Tests.{case}
 use Rattle.rules.specs.declared.Plan.{Plan}
 use Rattle.rules.specs.declared.Yard.{Yard}

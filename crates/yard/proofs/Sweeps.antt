@@ -1,15 +1,7 @@
 -- One pass over the devices: what each does, how the pass begins, what stands where it has come to, how it goes on.
 -- Device i's slot and the device itself stand at i - 1.
-use Rattle.std.specs.Prelude.{Option}
-use Prim.Native.Nat.{ℕ, ◌+◌, ◌-◌, ◌≤◌, ◌<◌}
-use native.Mathlib.Omega.{arith}
-use mathlib.Core.Path.{◌≡◌, sym, ◌∙◌, ap}
-use mathlib.Core.Bool.{Bool, cond}
-use mathlib.Core.List.{List}
-use lib.Dec.{leb, eqb}
-use lib.Seq.{ext_get_or, get_or-set_same, get_or-set_other}
-use borrow.Author.Tests.{eqb-true, eqb-false, le-leb, leb-true}
-use lib.ListN.{length, get_or, set, length-set}
+use Rattle.std.proofs.Common.{Option, ℕ, ◌+◌, ◌-◌, ◌≤◌, ◌<◌, arith, ◌≡◌, sym, ◌∙◌, ap, Bool, cond, List, leb, eqb, ext_get_or, get_or-set_same, get_or-set_other, eqb-true, le-leb, leb-true, length, get_or, set, length-set}
+use borrow.Author.Tests.{eqb-false}
 use Rattle.laws.specs.Lists.{swept}
 use Rattle.laws.specs.Bits.{bit}
 use Rattle.laws.proofs.Tests.{case}

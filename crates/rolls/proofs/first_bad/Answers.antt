@@ -1,5 +1,4 @@
-use Rattle.std.proofs.Common.{ℕ, ◌-◌, ◌≡◌, sym, ◌∙◌, ap, true, false, not, List, arith}
-use borrow.Author.Count.{below_more}
+use Rattle.std.proofs.Common.{ℕ, ◌-◌, ◌≡◌, sym, ◌∙◌, ap, true, false, not, List, arith, below_more}
 use Rattle.laws.proofs.Tests.{lowest_is, lowest_is_none}
 use Rattle.rules.specs.declared.Plan.{Plan}
 use Rattle.rules.specs.Run.{records}

@@ -1,5 +1,4 @@
-use Prim.Native.Nat.{ℕ}
-use mathlib.Core.List.{List}
+use Rattle.std.proofs.Common.{ℕ, List}
 use Rattle.rules.specs.declared.Plan.{Plan}
 use Rattle.rules.specs.declared.Yard.{Yard}
 use Rattle.yard.proofs.Answers.{run_refused, run_taken, run_accepted, run_keeps}

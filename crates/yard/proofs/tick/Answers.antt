@@ -1,5 +1,4 @@
-use native.Mathlib.Omega.{arith}
-use mathlib.Core.Path.{sym, ◌∙◌}
+use Rattle.std.proofs.Common.{arith, sym, ◌∙◌}
 use Rattle.yard.proofs.Answers.{tick_taken, tick_refused, tick_accepted}
 use Rattle.yard.proofs.tick.Goals as goal
 
