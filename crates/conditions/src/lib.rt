@@ -22,13 +22,13 @@ fn product(a: u16, b: u16) -> u32
 fn is_time(t: u16) -> bool
     ensures { result ≡ is_time t }
 {
-    (1 <= t) & (t <= 36000)
+    (1..=36000).contains(&t)
 }
 
 fn size_holds(n: u16) -> bool
     ensures { result ≡ size_holds n }
 {
-    (2 <= n) & (n <= 8)
+    (2..=8).contains(&n)
 }
 
 fn yard_times(w: u16, b: u16, q: u16) -> bool

@@ -17,7 +17,7 @@ fn place_after(k: usize) -> usize
     ensures same { result ≡ place_after k }
     ensures inside { result < 8 }
 {
-    if k < 7 { k + 1 } else { 7 }
+    k.min(6) + 1
 }
 
 // What has been found, after one more index at which `line` is the first that is broken: the lower line, and of two that are

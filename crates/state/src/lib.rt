@@ -2,9 +2,8 @@
 #![tactic(auto)]
 
 ghost use Rattle.std.specs.Prelude.{◌≡◌};
-ghost use Rattle.rules.specs.Plan.{slot, LS, is_device, is_participant};
-ghost use Rattle.rules.specs.Yard.{index_formed, clock_formed, lease_formed, place_formed, letter_formed, is_fresh, device_formed, base_formed, well_formed, same_place, same_letter};
-ghost use Rattle.rules.specs.Letters as letter;
+ghost use Rattle.rules.specs.Plan.{slot, is_device, is_participant};
+ghost use Rattle.rules.specs.Yard.{index_formed, clock_formed, lease_formed, place_formed, letter_formed, is_fresh, device_formed, base_formed, well_formed};
 
 use lease::lease_length;
 use rules::{Base, Device, Letter, Place, Plan, Slot, Yard};

@@ -1,8 +1,7 @@
 // Places, letters, bases, down letters and verdicts by number: the vocabulary that comparisons, bytes and text share. A number
 // that stands for nothing is read as the first of its kind; callers that must tell have looked before. No function here has
 // a `requires`.
-// Stays: functions and not `From`: the types stand in `rules`, and such an impl must stand beside its type; nor `TryFrom`, since
-// what their contracts promise, and the theorem `VocabularyBack`, is an answer for every number.
+// Stays: no `From`, as the types stand in `rules`; no `TryFrom`, as the contracts (and `VocabularyBack`) answer for every number.
 #![tactic(auto)]
 
 ghost use Rattle.std.specs.Prelude.{◌≡◌};
@@ -14,14 +13,7 @@ use rules::{Base, Down, Letter, Place, Verdict};
 pub fn place_number(place: Place) -> u8
     ensures { result ≡ place_number place }
 {
-    match place {
-        Place::FallBack => 0,
-        Place::Requesting => 1,
-        Place::Entering => 2,
-        Place::Running => 3,
-        Place::Exiting1 => 4,
-        Place::Exiting2 => 5,
-    }
+    place as u8
 }
 
 #[tactic(auto, unfolding(rules::specs::Numbers::place_of))]
