@@ -1,12 +1,6 @@
 -- Room for a body, as code finds it, and that what is written has it.
-use Prim.Native.Nat.{ℕ, ◌+◌, ◌*◌, ◌≤◌, ◌<◌}
-use native.Mathlib.Omega.{arith}
-use mathlib.Core.Path.{◌≡◌}
-use mathlib.Core.Bool.{true, false}
-use mathlib.Core.List.{List}
-use lib.Dec.{leb}
-use lib.ListN.{length}
-use borrow.Author.Tests.{le-leb, lt-leb, leb-true}
+use Rattle.std.proofs.Common.{ℕ, ◌+◌, ◌*◌, ◌≤◌, ◌<◌, arith, ◌≡◌, true, false, List, leb, length, le-leb, leb-true}
+use borrow.Author.Tests.{lt-leb}
 use Rattle.laws.specs.Written.{Written}
 use Rattle.laws.proofs.Tests.{and_hold, case}
 use Rattle.rules.specs.declared.Plan.{Plan}

@@ -6,7 +6,7 @@
 ghost use Rattle.std.specs.Prelude.{◌≡◌, ◌++◌, ◌+◌, ◌*◌, ◌≤◌, length, drop};
 ghost use Rattle.laws.specs.Written.{Written};
 ghost use Rattle.planfile_rules.specs.File.{slots_in, plan_in, body_fits, plan_for, whole_plan};
-ghost use Rattle.planfile_rules.specs.Writing.{slots_bytes, body_bytes, body_written, plan_written};
+ghost use Rattle.planfile_rules.specs.Writing.{slots_bytes, body_written, plan_written};
 
 use file_answers::empty_plan;
 use numbers::read::two_at;
@@ -22,31 +22,40 @@ fn has_room(n: usize, room: usize) -> bool
     n <= 8 && 8 + 12 * n <= room
 }
 
-// The slots of n devices; those above n stay all zero. Each is read from a part that is just its own: where the length of a
-// slice is plain, no byte has to be looked for.
-fn slots_in(body: &[u8], n: usize) -> [Slot; 8]
-    requires { (n ≤ 8) × (8 + 12 * n ≤ length body.now) }
-    ensures { result ≡ slots_in n body.now }
-{
-    let mut slots = empty_plan().slots;
-    for k in 0..n {
-        let at = 8 + 12 * k;
-        slots[k] = slot_in(&body[at..at + 12]);
-    }
-    slots
+// The bytes of a body, and how many devices have room in them.
+#[derive(Clone, Copy)]
+struct Body<'a> {
+    bytes: &'a [u8],
+    n: usize,
+    ghost few: { n ≤ 8 },
+    ghost room: { 8 + 12 * n ≤ length bytes.now },
 }
 
-#[tactic(auto, unfolding(planfile_rules::specs::File::plan_in))]
-fn held_plan(body: &[u8], n: usize) -> Plan
-    requires { (n ≤ 8) × (8 + 12 * n ≤ length body.now) }
-    ensures { result ≡ plan_in n body.now }
-{
-    Plan {
-        N: two_at(body, 0),
-        W: two_at(body, 2),
-        B: two_at(body, 4),
-        Q: two_at(body, 6),
-        slots: slots_in(body, n),
+impl Body<'_> {
+    // The slots of its devices; those above n stay all zero. Each is read from a part that is just its own: where the length of
+    // a slice is plain, no byte has to be looked for.
+    fn slots(&self) -> [Slot; 8]
+        ensures { result ≡ slots_in self.now.n self.now.bytes.now }
+    {
+        let mut slots = empty_plan().slots;
+        for k in 0..self.n {
+            let at = 8 + 12 * k;
+            slots[k] = slot_in(&self.bytes[at..at + 12]);
+        }
+        slots
+    }
+
+    #[tactic(auto, unfolding(planfile_rules::specs::File::plan_in))]
+    fn plan(&self) -> Plan
+        ensures { result ≡ plan_in self.now.n self.now.bytes.now }
+    {
+        Plan {
+            N: two_at(self.bytes, 0),
+            W: two_at(self.bytes, 2),
+            B: two_at(self.bytes, 4),
+            Q: two_at(self.bytes, 6),
+            slots: self.slots(),
+        }
     }
 }
 
@@ -55,10 +64,10 @@ fn held_plan(body: &[u8], n: usize) -> Plan
 pub fn plan_in(body: &[u8], n: usize) -> Plan
     ensures { result ≡ plan_for n body.now }
 {
-    if has_room(n, body.len()) {
-        return held_plan(body, n);
+    if !has_room(n, body.len()) {
+        return empty_plan();
     }
-    empty_plan()
+    Body { bytes: body, n }.plan()
 }
 
 // The slots of the first n devices, each where a body has it, and written into a part that is just its own.
@@ -72,17 +81,6 @@ fn put_slots(slots: [Slot; 8], n: usize, out: &mut [u8])
     }
 }
 
-fn put_held(p: Plan, n: usize, out: &mut [u8])
-    requires { (n ≤ 8) × (8 + 12 * n ≤ length out.old) }
-    ensures { Written out.old 0 (body_bytes p n) out.new (8 + 12 * n) × (length p.slots ≡ 8) }
-{
-    put_two(p.N, out, 0);
-    put_two(p.W, out, 2);
-    put_two(p.B, out, 4);
-    put_two(p.Q, out, 6);
-    put_slots(p.slots, n, out);
-}
-
 // A body of n devices, at the front of a buffer; the answer is how many bytes were written, none where it has no room. That a
 // plan has eight slots is what its type says; whoever reads the body back wants to know it.
 #[tactic(auto, using(laws::proofs::Writes::nothing, crate::proofs::Rooms::enough), unfolding(planfile_rules::specs::Writing::body_written))]
@@ -90,11 +88,15 @@ pub fn put_body(p: Plan, n: usize, out: &mut [u8]) -> usize
     ensures written { Written out.old 0 (body_written p n (length out.old)) out.new result }
     ensures eight_slots { length p.slots ≡ 8 }
 {
-    if has_room(n, out.len()) {
-        put_held(p, n, out);
-        return 8 + 12 * n;
+    if !has_room(n, out.len()) {
+        return 0;
     }
-    0
+    put_two(p.N, out, 0);
+    put_two(p.W, out, 2);
+    put_two(p.B, out, 4);
+    put_two(p.Q, out, 6);
+    put_slots(p.slots, n, out);
+    8 + 12 * n
 }
 
 pub const PLAN_SIZE: usize = 104;

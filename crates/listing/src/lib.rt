@@ -18,6 +18,7 @@ pub const LINE_ROOM: usize = 64;
 
 // The header for n devices, from `at` on; it answers where the header ends. With more than 8 devices, or with fewer than
 // 64 bytes of room behind `at`, it writes nothing and answers `at`.
+// Stays: a place beside the buffer, as `wilatkhun_header` is handed them; the pen is made of both here.
 #[tactic(auto, unfolding(listing_rules::specs::Listing::header_written, listing_rules::specs::Listing::header_buffer, laws::specs::Tests::all_of))]
 pub fn header(n: u16, out: &mut [u8], at: usize) -> usize
     ensures value { result ≡ at + length (header_written n (length out.old) at) }

@@ -1,13 +1,8 @@
 -- What is written is read back, and what is read is written back.
-use Prim.Native.Nat.{ℕ, ◌+◌, ◌*◌, ◌/◌, ◌%◌, ◌≤◌, ◌<◌}
-use native.Mathlib.Omega.{arith}
+use Rattle.std.proofs.Common.{ℕ, ◌+◌, ◌*◌, ◌/◌, ◌%◌, ◌≤◌, ◌<◌, arith, ◌≡◌, sym, ◌∙◌, ap, List, [], ◌∷◌, ◌++◌, length, take, drop, get_or, length-append, length-drop, length-take-le, get_or-append-add, get_or-drop, get_or-take, take-suc, take_all, leb, ltb, leb-true, ltb-true}
 use native.Mathlib.Nat.{mod-add-div}
-use mathlib.Core.Path.{◌≡◌, sym, ◌∙◌, ap}
-use mathlib.Core.List.{List, [], ◌∷◌, ◌++◌}
-use lib.ListN.{length, take, drop, get_or, length-append, length-drop, get_or-append, get_or-eq_default}
-use lib.Seq.{sets, sets-eq, length-take-le, get_or-append-add, get_or-drop, get_or-take, take-suc, take_all}
-use lib.Dec.{leb, ltb}
-use borrow.Author.Tests.{leb-true, ltb-true}
+use lib.ListN.{get_or-append, get_or-eq_default}
+use lib.Seq.{sets, sets-eq}
 use Rattle.laws.proofs.Tests.{case, tests}
 use Rattle.laws.proofs.Lists.{parts_join}
 use Rattle.laws.proofs.Parts.{low_part, high_part}

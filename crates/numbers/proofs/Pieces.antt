@@ -1,10 +1,5 @@
 -- Pieces of one width, one behind the other: what is read in each.
-use Prim.Native.Nat.{ℕ, ◌+◌, ◌-◌, ◌*◌, ◌≤◌, ◌<◌}
-use native.Mathlib.Omega.{arith}
-use mathlib.Core.Path.{◌≡◌, ◌∙◌, ap}
-use mathlib.Core.List.{List, ◌++◌}
-use lib.ListN.{length, take, drop, get_or}
-use lib.Seq.{get_or-append-add, get_or-take, get_or-drop}
+use Rattle.std.proofs.Common.{ℕ, ◌+◌, ◌-◌, ◌*◌, ◌≤◌, ◌<◌, arith, ◌≡◌, ◌∙◌, ap, List, ◌++◌, length, take, drop, get_or, get_or-append-add, get_or-take, get_or-drop}
 use Rattle.laws.specs.Lists.{joined}
 use Rattle.laws.proofs.Lists.{joined_at}
 use Rattle.numbers.specs.Bytes.{num16}

@@ -1,4 +1,6 @@
 // Numbers written into a buffer, at any place: nothing is written past the end, and every other byte keeps its value.
+// Stays: a place beside the buffer and no pen as in `text`: `Written` says where a number ends also past the buffer's end, where
+// a pen stops.
 ghost use Rattle.std.specs.Prelude.{◌+◌};
 ghost use Rattle.laws.specs.Written.{Written};
 ghost use Rattle.numbers.specs.Bytes.{two_bytes, four_bytes};

@@ -98,6 +98,7 @@ pub fn trailer_for(n: u8) -> Trailer
 }
 
 // A trailer's ten bytes, from a place on.
+// Stays: a place beside the buffer, for `Written` says where the bytes end also past the buffer's end.
 #[tactic(auto, using(laws::proofs::Writes::past_end, laws::proofs::Writes::then_more), unfolding(planfile_rules::specs::Writing::trailer_bytes, numbers::specs::Bytes::two_bytes, numbers::specs::Bytes::four_bytes))]
 pub fn put_trailer(t: Trailer, out: &mut [u8], at: usize)
     ensures { Written out.old at (trailer_bytes t) out.new (at + 10) }

@@ -35,13 +35,13 @@ fn devices_stand(bytes: &[u8]) -> bool
 
 // The length is looked at first and by itself: whoever reads a byte behind that need not ask for it again, which halves the time
 // of a reading.
+#[tactic(auto, unfolding(layout_rules::specs::Reading::is_yard, laws::specs::Tests::all_of))]
 fn is_yard(bytes: &[u8]) -> bool
     ensures { result ≡ is_yard bytes.now }
 {
-    if bytes.len() < YARD_SIZE {
-        return false;
-    }
-    base_stands(byte_at(bytes, 0), byte_at(bytes, 1)) & devices_stand(bytes)
+    YARD_SIZE <= bytes.len()
+        && base_stands(byte_at(bytes, 0), byte_at(bytes, 1))
+        && devices_stand(bytes)
 }
 
 fn fresh_devices() -> [Device; 8]

@@ -1,6 +1,5 @@
-use native.Mathlib.Omega.{arith}
-use mathlib.Core.Path.{refl}
-use borrow.Author.Tests.{le-leb, lt-leb}
+use Rattle.std.proofs.Common.{arith, refl, le-leb}
+use borrow.Author.Tests.{lt-leb}
 use Rattle.laws.proofs.Writes.{and_then, at_front}
 use Rattle.layout_rules.specs.Bytes.{yard_size, yard_bytes, yard_written}
 use Rattle.layout_rules.proofs.Widths.{yard_wide}

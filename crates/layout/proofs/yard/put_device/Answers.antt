@@ -1,4 +1,4 @@
-use native.Mathlib.Omega.{arith}
+use Rattle.std.proofs.Common.{arith}
 use Rattle.laws.proofs.Writes.{and_then, as_end}
 use Rattle.layout_rules.specs.Bytes.{device_bytes}
 use Rattle.layout.proofs.yard.put_device.Goals as goal

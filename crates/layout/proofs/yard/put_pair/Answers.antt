@@ -1,7 +1,4 @@
-use Prim.Native.Nat.{ℕ, ◌+◌, ◌*◌, ◌<◌}
-use mathlib.Core.Path.{◌≡◌, ◌∙◌, ap}
-use mathlib.Core.List.{[], ◌∷◌}
-use borrow.Author.Rules.{rules}
+use Rattle.std.proofs.Common.{ℕ, ◌+◌, ◌*◌, ◌<◌, ◌≡◌, ◌∙◌, ap, [], ◌∷◌, rules}
 use Rattle.laws.proofs.Parts.{low_part, high_part}
 use Rattle.laws.proofs.Writes.{as_text}
 use Rattle.numbers.specs.Bytes.{two_bytes}
