@@ -13,7 +13,7 @@ ghost use Rattle.exports_rules.specs.Calls.{Checked, Freshened, Ticked, Ran, Tak
 
 use answers::{answer, piece_len, piece_slice, piece_start};
 use asked::{check_for, fresh_for, list_for, read_for, run_for, tick_for, write_for};
-use kept::{keep_plan, keep_yard};
+use kept::keep;
 use rules::Record;
 use vocabulary::{down_index, down_number};
 
@@ -29,10 +29,8 @@ pub extern "C" fn wilatkhun_fresh(plan: &[u8], yard: &mut [u8], index: &mut usiz
     ensures { Freshened plan.now yard.old yard.new result index.new }
 {
     let a = fresh_for(plan, yard.len());
-    let verdict = a.verdict;
-    let y = a.yard;
-    keep_yard(verdict, y, yard);
-    answer(verdict, index)
+    keep(a.verdict, a.yard, yard);
+    answer(a.verdict, index)
 }
 
 #[unsafe(no_mangle)]
@@ -56,13 +54,10 @@ pub extern "C" fn wilatkhun_tick(
         lost,
     };
     let a = tick_for(plan, yard, r);
-    let verdict = a.verdict;
-    let y = a.yard;
-    let letter = a.down;
-    keep_yard(verdict, y, yard);
-    *down = down_number(letter);
-    *device = down_index(letter);
-    answer(verdict, index)
+    keep(a.verdict, a.yard, yard);
+    *down = down_number(a.down);
+    *device = down_index(a.down);
+    answer(a.verdict, index)
 }
 
 #[unsafe(no_mangle)]
@@ -78,11 +73,9 @@ pub extern "C" fn wilatkhun_run(
     ensures { Ran plan.now yard.old roll.now budget engaged.old yard.new engaged.new result ticks.new index.new }
 {
     let a = run_for(plan, yard, roll, budget, engaged);
-    let verdict = a.verdict;
-    let y = a.yard;
-    keep_yard(verdict, y, yard);
+    keep(a.verdict, a.yard, yard);
     *ticks = a.ticks;
-    answer(verdict, index)
+    answer(a.verdict, index)
 }
 
 #[unsafe(no_mangle)]
@@ -90,10 +83,8 @@ pub extern "C" fn wilatkhun_read(file: &[u8], plan: &mut [u8], index: &mut usize
     ensures { Taken file.now plan.old plan.new result index.new }
 {
     let a = read_for(file, plan.len());
-    let verdict = a.verdict;
-    let p = a.plan;
-    keep_plan(verdict, p, plan);
-    answer(verdict, index)
+    keep(a.verdict, a.plan, plan);
+    answer(a.verdict, index)
 }
 
 #[unsafe(no_mangle)]
@@ -106,9 +97,8 @@ pub extern "C" fn wilatkhun_write(
     ensures { Wrote plan.now file.old file.new result len.new index.new }
 {
     let written = write_for(plan, file);
-    let verdict = written.verdict;
     *len = written.length;
-    answer(verdict, index)
+    answer(written.verdict, index)
 }
 
 #[unsafe(no_mangle)]
@@ -143,10 +133,8 @@ pub extern "C" fn wilatkhun_list(
     ensures { Lined plan.now yard.old roll.now first out.old yard.new out.new result ticks.new len.new index.new }
 {
     let a = list_for(plan, yard, roll, first, out);
-    let verdict = a.verdict;
-    let y = a.yard;
-    keep_yard(verdict, y, yard);
+    keep(a.verdict, a.yard, yard);
     *ticks = a.ticks;
     *len = a.length;
-    answer(verdict, index)
+    answer(a.verdict, index)
 }

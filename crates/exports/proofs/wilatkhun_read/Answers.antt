@@ -4,8 +4,8 @@ use Rattle.planfile_rules.specs.declared.ReadAnswer.{ReadAnswer}
 use Rattle.exports_rules.proofs.Lengths.{read_sized}
 use Rattle.exports.proofs.wilatkhun_read.Goals as goal
 
-pub keep_plan-requires : goal.keep_plan-requires
-keep_plan-requires c h =
+pub keep-requires : goal.keep-requires
+keep-requires c h =
     let args = c.args in
     let told = ap (λ (a : ReadAnswer). a.verdict) c.read_for-a.ensures in
     read_sized args.file.now (length args.plan.now) (sym told ∙ h)
@@ -13,5 +13,5 @@ keep_plan-requires c h =
 pub returns : goal.returns
 returns c =
     let told = c.read_for-a.ensures in
-    let kept = c.keep_plan.ensures in
+    let kept = c.keep.ensures in
     record { answer = rw told at c.answer.ensures; bytes = rw told at kept }
