@@ -1,11 +1,6 @@
 -- What one call leaves, the next one reads.
-use Prim.Native.Nat.{ℕ, zero, suc}
-use mathlib.Core.Path.{◌≡◌, refl, sym}
-use mathlib.Core.Bool.{true, ◌&&◌}
-use mathlib.Core.List.{List, ◌++◌}
-use lib.ListN.{length, take, drop}
+use Rattle.std.proofs.Common.{ℕ, zero, suc, ◌≡◌, refl, sym, true, ◌&&◌, List, ◌++◌, length, take, drop, Err}
 use lib.Seq.{take-append_seam}
-use Rattle.std.specs.Prelude.{Err}
 use Rattle.laws.proofs.Tests.{case}
 use Rattle.laws.proofs.Lists.{tabulate_length}
 use Rattle.numbers.specs.Bytes.{AllBytes}

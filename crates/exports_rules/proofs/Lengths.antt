@@ -1,10 +1,5 @@
 -- Each call that is not refused was lent a yard, or a plan, of the right length.
-use Prim.Native.Nat.{ℕ}
-use mathlib.Core.Path.{◌≡◌, refl}
-use mathlib.Core.Bool.{◌&&◌}
-use mathlib.Core.List.{List}
-use lib.ListN.{length}
-use borrow.Author.Tests.{eqb-true}
+use Rattle.std.proofs.Common.{ℕ, ◌≡◌, refl, ◌&&◌, List, length, eqb-true}
 use Rattle.laws.proofs.Tests.{case}
 use Rattle.rules.specs.Verdict.{Accepted}
 use Rattle.rules.specs.Downs as down

@@ -1,12 +1,6 @@
 -- What is not refused for its size has the size asked for.
-use Prim.Native.Nat.{ℕ}
-use mathlib.Core.Path.{◌≡◌, refl, sym, ◌∙◌, ap}
-use mathlib.Core.Bool.{Bool, true, false, ◌&&◌}
-use mathlib.Core.List.{List, [], ◌++◌, append-nil}
-use lib.ListN.{length, drop}
+use Rattle.std.proofs.Common.{ℕ, ◌≡◌, refl, sym, ◌∙◌, ap, Bool, true, false, ◌&&◌, List, [], ◌++◌, append-nil, length, drop, arith, eqb-true, le-leb}
 use lib.Seq.{drop-length}
-use native.Mathlib.Omega.{arith}
-use borrow.Author.Tests.{eqb-true, le-leb}
 use Rattle.laws.proofs.Tests.{and_hold}
 use Rattle.rules.specs.declared.Plan.{Plan}
 use Rattle.rules.specs.declared.Yard.{Yard}

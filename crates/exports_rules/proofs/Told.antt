@@ -1,6 +1,5 @@
 -- A letter and a piece are had back from their numbers.
-use Rattle.std.specs.Prelude.{Option}
-use mathlib.Core.Path.{◌≡◌, refl}
+use Rattle.std.proofs.Common.{Option, ◌≡◌, refl}
 use Rattle.rules.specs.declared.Down.{Down}
 use Rattle.rules.specs.Downs as down
 use Rattle.finder_rules.specs.declared.Piece.{Piece}

@@ -1,8 +1,5 @@
 -- Two parts that are the same piece have the same bytes at the same place.
-use Prim.Native.Nat.{ℕ}
-use mathlib.Core.Path.{◌≡◌}
-use mathlib.Core.List.{List}
-use denote.Ref.{Bor}
+use Rattle.std.proofs.Common.{ℕ, ◌≡◌, List, Bor}
 use Rattle.laws.proofs.Tests.{determined}
 use Rattle.finder_rules.specs.declared.Piece.TheVariants.{InFile, InRoll}
 use Rattle.finder_rules.specs.Piece.{PartOf}

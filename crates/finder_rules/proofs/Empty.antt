@@ -1,11 +1,5 @@
 -- The empty part at the roll's end means that nothing is at fault, and only that.
-use Prim.Native.Nat.{ℕ, ◌+◌}
-use native.Mathlib.Omega.{arith}
-use mathlib.Core.Path.{◌≡◌, refl, ap}
-use mathlib.Core.Bool.{not}
-use mathlib.Core.List.{List}
-use lib.Dec.{eqb, ltb}
-use lib.ListN.{length}
+use Rattle.std.proofs.Common.{ℕ, ◌+◌, arith, ◌≡◌, refl, ap, not, List, eqb, ltb, length}
 use Rattle.laws.proofs.Tests.{tests, case}
 use Rattle.rules.specs.declared.Plan.{Plan}
 use Rattle.rules.specs.Verdict.{Verdict}

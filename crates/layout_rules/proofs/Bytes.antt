@@ -1,12 +1,5 @@
 -- A yard's bytes that are not malformed are given back.
-use Prim.Native.Nat.{ℕ, ◌+◌, ◌-◌, ◌≤◌, ◌<◌}
-use native.Mathlib.Omega.{arith}
-use mathlib.Core.Path.{◌≡◌, ◌∙◌, ap}
-use mathlib.Core.List.{List, [], ◌∷◌, ◌++◌}
-use lib.Dec.{leb}
-use lib.ListN.{length, take, drop, get_or}
-use lib.Seq.{take_all}
-use borrow.Author.Tests.{leb-true, leb-false}
+use Rattle.std.proofs.Common.{ℕ, ◌+◌, ◌-◌, ◌≤◌, ◌<◌, arith, ◌≡◌, ◌∙◌, ap, List, [], ◌∷◌, ◌++◌, leb, length, take, drop, get_or, take_all, leb-true, leb-false}
 use Rattle.laws.specs.Lists.{tabulate}
 use Rattle.laws.proofs.Tests.{case}
 use Rattle.laws.proofs.Lists.{tabulate_at, parts_join, pieces_join}

@@ -1,11 +1,5 @@
 -- Bytes that are a yard's, read as facts: what the tests of `is_yard` say, both ways.
-use Prim.Native.Nat.{ℕ, ◌≤◌}
-use mathlib.Core.Path.{◌≡◌}
-use mathlib.Core.Bool.{true, ◌||◌}
-use mathlib.Core.List.{List, [], ◌∷◌}
-use lib.Dec.{leb, ltb, eqb}
-use lib.ListN.{length}
-use borrow.Author.Tests.{leb-true, le-leb, eqb-true, eq-eqb}
+use Rattle.std.proofs.Common.{ℕ, ◌≤◌, ◌≡◌, true, ◌||◌, List, [], ◌∷◌, leb, ltb, eqb, length, leb-true, le-leb, eqb-true, eq-eqb}
 use Rattle.laws.specs.Tests.{each}
 use Rattle.laws.proofs.Tests.{case, tests, and_hold, and_of, all_hold, all_of_lem, each_holds, each_of}
 use Rattle.layout_rules.specs.Bytes.{yard_size}

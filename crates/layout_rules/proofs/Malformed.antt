@@ -1,9 +1,5 @@
 -- Bytes that are not a yard's are read as one yard, which is well formed under no plan.
-use Prim.Native.Nat.{ℕ}
-use native.Mathlib.Omega.{arith}
-use mathlib.Core.Path.{◌≡◌}
-use mathlib.Core.Bool.{false}
-use mathlib.Core.List.{List}
+use Rattle.std.proofs.Common.{ℕ, arith, ◌≡◌, false, List}
 use Rattle.laws.proofs.Tests.{fails}
 use Rattle.rules.specs.declared.Plan.{Plan}
 use Rattle.rules.specs.declared.Base.TheVariants as base

@@ -1,7 +1,5 @@
 -- A number that stands for a place, a letter or a base is written as it was read. The other way round is `vocabulary_back` of the rules.
-use Prim.Native.Nat.{ℕ, zero, suc, ◌≤◌}
-use native.Mathlib.Omega.{arith}
-use mathlib.Core.Path.{◌≡◌, refl}
+use Rattle.std.proofs.Common.{ℕ, zero, suc, ◌≤◌, arith, ◌≡◌, refl}
 use Rattle.rules.specs.Numbers.{place_number, place_of, letter_number, letter_of, base_number, base_index, base_of}
 
 pub place_again : (a : ℕ) → a ≤ 5 → place_number (place_of a) ≡ a

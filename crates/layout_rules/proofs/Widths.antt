@@ -1,8 +1,5 @@
 -- How many bytes a yard takes.
-use Prim.Native.Nat.{◌-◌}
-use native.Mathlib.Omega.{arith}
-use mathlib.Core.Path.{◌≡◌, refl}
-use lib.ListN.{length, get_or}
+use Rattle.std.proofs.Common.{◌-◌, arith, ◌≡◌, refl, length, get_or}
 use Rattle.laws.proofs.Lists.{joined_length}
 use Rattle.numbers.specs.Bytes.{two_bytes, four_bytes}
 use Rattle.rules.specs.declared.Device.{Device}

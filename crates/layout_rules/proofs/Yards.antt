@@ -1,11 +1,5 @@
 -- A yard's bytes are read as that yard.
-use Rattle.std.specs.Prelude.{Option}
-use Prim.Native.Nat.{ℕ, ◌+◌, ◌-◌, ◌≤◌, ◌<◌}
-use native.Mathlib.Omega.{arith}
-use mathlib.Core.Path.{◌≡◌, refl, ◌∙◌}
-use mathlib.Core.Bool.{true}
-use mathlib.Core.List.{List, [], ◌∷◌, ◌++◌}
-use lib.ListN.{length, get_or}
+use Rattle.std.proofs.Common.{Option, ℕ, ◌+◌, ◌-◌, ◌≤◌, ◌<◌, arith, ◌≡◌, refl, ◌∙◌, true, List, [], ◌∷◌, ◌++◌, length, get_or}
 use Rattle.laws.specs.Lists.{tabulate}
 use Rattle.laws.proofs.Lists.{tabulate_same, tabulate_back}
 use Rattle.numbers.specs.Bytes.{num16, num32, two_bytes, four_bytes}

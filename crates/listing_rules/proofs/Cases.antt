@@ -1,5 +1,5 @@
 -- The listings of document 01, computed.
-use mathlib.Core.Path.{refl}
+use Rattle.std.proofs.Common.{refl}
 use Rattle.laws.specs.Tests.{all_of, any_of, each, lowest}
 use Rattle.laws.specs.Lists.{tabulate}
 use Rattle.laws.specs.Bits.{bit}

@@ -1,10 +1,5 @@
 -- The header: when it is written, and that it then stands in the buffer.
-use Prim.Native.Nat.{ℕ, ◌+◌, ◌≤◌}
-use native.Mathlib.Omega.{arith}
-use mathlib.Core.Path.{◌≡◌}
-use mathlib.Core.List.{List}
-use lib.ListN.{length}
-use borrow.Author.Tests.{le-leb}
+use Rattle.std.proofs.Common.{ℕ, ◌+◌, ◌≤◌, arith, ◌≡◌, List, length, le-leb}
 use Rattle.laws.specs.Tests.{all_of}
 use Rattle.listing_rules.specs.Text.{header_text}
 use Rattle.listing_rules.specs.Listing.{line_room, header_written, header_buffer}

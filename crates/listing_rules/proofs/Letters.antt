@@ -1,10 +1,5 @@
 -- The devices that a line names: under an accepted plan there is none above N.
-use Rattle.std.specs.Prelude.{Option}
-use Prim.Native.Nat.{ℕ, ◌+◌, ◌-◌, ◌≤◌}
-use native.Mathlib.Omega.{arith}
-use mathlib.Core.Bool.{Bool, true, not, ◌&&◌}
-use mathlib.Core.Path.{◌≡◌}
-use lib.Dec.{ltb, eqb}
+use Rattle.std.proofs.Common.{Option, ℕ, ◌+◌, ◌-◌, ◌≤◌, arith, Bool, true, not, ◌&&◌, ◌≡◌, ltb, eqb}
 use Rattle.laws.proofs.Tests.{on_cond}
 use Rattle.rules.specs.declared.Plan.{Plan}
 use Rattle.rules.specs.declared.Yard.{Yard}

@@ -1,13 +1,5 @@
 -- Where a listing stands after k ticks of a roll that is not refused: at the start, one tick on, and at the end.
-use Prim.Native.Nat.{ℕ, ◌+◌, ◌-◌, ◌^◌, ◌≤◌, ◌<◌}
-use native.Mathlib.Omega.{arith}
-use native.Mathlib.Numerals.{add-one}
-use mathlib.Core.Path.{◌≡◌, refl, sym, ◌∙◌}
-use mathlib.Core.Bool.{Bool, true, false, ◌&&◌}
-use mathlib.Core.List.{List}
-use lib.Dec.{ltb, leb, eqb}
-use lib.ListN.{length, length-append}
-use borrow.Author.Tests.{ltb-true, le-ltb, lt-ltb, leb-true, leb-false, eqb-true}
+use Rattle.std.proofs.Common.{ℕ, ◌+◌, ◌-◌, ◌^◌, ◌≤◌, ◌<◌, arith, add-one, ◌≡◌, refl, sym, ◌∙◌, Bool, true, false, ◌&&◌, List, ltb, leb, eqb, length, length-append, ltb-true, le-ltb, lt-ltb, leb-true, leb-false, eqb-true}
 use Rattle.laws.proofs.Tests.{and_hold, lowest_is, lowest_is_none, case, clash, tests}
 use Rattle.laws.proofs.Writes.{at_front}
 use Rattle.text_rules.specs.Laid.{Laid}

@@ -1,8 +1,6 @@
 -- The least of f 0 to f n, and the lowest index that has it: what one pass over the indices keeps.
-use Rattle.std.proofs.Common.{ℕ, zero, suc, ◌+◌, ◌≤◌, ◌<◌, arith, add-one, ◌≡◌, refl, Option, None, Some}
+use Rattle.std.proofs.Common.{ℕ, zero, suc, ◌+◌, ◌≤◌, ◌<◌, arith, add-one, ◌≡◌, refl, Option, None, Some, leb, eqb, eqb-true}
 use lib.Arith.{le-zero}
-use lib.Dec.{leb, eqb}
-use borrow.Author.Tests.{eqb-true}
 use Rattle.laws.proofs.Tests.{tests, case}
 use Rattle.rules.specs.declared.Refusal.{Refusal}
 use Rattle.plan.specs.Places.{lower}

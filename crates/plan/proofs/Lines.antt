@@ -1,7 +1,5 @@
 -- The lines that are tried at an index are those of the table that are asked there.
-use Rattle.std.proofs.Common.{ℕ, suc, ◌+◌, ◌-◌, ◌*◌, ◌≤◌, ◌<◌, arith, ◌≡◌, refl, ◌∙◌, sym, ap, ap₂, Bool, true, false, not, ◌&&◌, cond, List, [], ◌∷◌, Option, None, Some}
-use lib.Dec.{leb, ltb, eqb}
-use borrow.Author.Tests.{ltb-true, eq-eqb, ne_eqb, eqb-true}
+use Rattle.std.proofs.Common.{ℕ, suc, ◌+◌, ◌-◌, ◌*◌, ◌≤◌, ◌<◌, arith, ◌≡◌, refl, ◌∙◌, sym, ap, ap₂, Bool, true, false, not, ◌&&◌, cond, List, [], ◌∷◌, Option, None, Some, leb, ltb, eqb, ltb-true, eq-eqb, ne_eqb, eqb-true}
 use Rattle.laws.specs.Tests.{any_of}
 use Rattle.laws.proofs.Tests.{tests, case, fails, on_cond, and_hold, all_is}
 use Rattle.rules.specs.declared.Plan.{Plan}

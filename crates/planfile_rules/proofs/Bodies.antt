@@ -1,12 +1,5 @@
 -- A body: how long it is, that it is read as the plan that was written, and that the plan that was read is written as it.
-use Prim.Native.Nat.{ℕ, ◌+◌, ◌-◌, ◌*◌, ◌≤◌, ◌<◌}
-use native.Mathlib.Omega.{arith}
-use mathlib.Core.Path.{◌≡◌, refl, sym, ◌∙◌}
-use mathlib.Core.List.{List, ◌++◌}
-use lib.Dec.{leb}
-use lib.ListN.{length, take, drop, get_or}
-use lib.Seq.{take_all}
-use borrow.Author.Tests.{leb-true, leb-false, eq-eqb}
+use Rattle.std.proofs.Common.{ℕ, ◌+◌, ◌-◌, ◌*◌, ◌≤◌, ◌<◌, arith, ◌≡◌, refl, sym, ◌∙◌, List, ◌++◌, leb, length, take, drop, get_or, take_all, leb-true, leb-false, eq-eqb}
 use Rattle.laws.proofs.Tests.{case}
 use Rattle.laws.proofs.Lists.{tabulate_same, tabulate_back, joined_length, parts_join, pieces_join}
 use Rattle.numbers.specs.Bytes.{num16, two_bytes, AllBytes}

@@ -1,5 +1,5 @@
 -- The worked files, computed.
-use mathlib.Core.Path.{refl}
+use Rattle.std.proofs.Common.{refl}
 use Rattle.laws.specs.Tests.{all_of, any_of, lowest}
 use Rattle.laws.specs.Lists.{tabulate, joined}
 use Rattle.rules.specs.Verdict.{first_refusal}

@@ -1,13 +1,5 @@
 -- What a file is answered, by its length, its trailer and its body; and what is true of every answer.
-use Prim.Native.Nat.{ℕ, ◌+◌, ◌-◌, ◌*◌, ◌≤◌}
-use native.Mathlib.Omega.{arith}
-use mathlib.Core.Path.{◌≡◌, sym, ◌∙◌, ap}
-use mathlib.Core.Bool.{not}
-use mathlib.Core.List.{List}
-use lib.Dec.{eqb}
-use lib.ListN.{length, take, drop, length-drop}
-use lib.Seq.{length-take-le}
-use borrow.Author.Tests.{eq-eqb, ne_eqb}
+use Rattle.std.proofs.Common.{ℕ, ◌+◌, ◌-◌, ◌*◌, ◌≤◌, arith, ◌≡◌, sym, ◌∙◌, ap, not, List, eqb, length, take, drop, length-drop, length-take-le, eq-eqb, ne_eqb}
 use Rattle.rules.specs.Verdict.{Verdict}
 use Rattle.rules.specs.Verdict.{Accepted, Refused}
 use Rattle.rules.specs.Verdict.{refused_if}

@@ -1,15 +1,6 @@
 -- A file without notes that is taken is given back: its plan is written as its bytes.
-use Prim.Native.Nat.{ℕ, ◌+◌, ◌-◌, ◌*◌, ◌≤◌}
-use native.Mathlib.Omega.{arith}
-use mathlib.Core.Path.{◌≡◌, sym, ◌∙◌, ap}
-use mathlib.Core.Bool.{not}
-use mathlib.Core.List.{List, ◌++◌}
-use lib.Dec.{eqb}
-use lib.ListN.{length, drop, get_or, length-append, length-drop}
-use lib.Seq.{take_all, length-take-le}
-use mir.Syntax.{w8}
-use mir.Val.{Fits}
-use borrow.Author.Tests.{eqb-true, not-false}
+use Rattle.std.proofs.Common.{ℕ, ◌+◌, ◌-◌, ◌*◌, ◌≤◌, arith, ◌≡◌, sym, ◌∙◌, ap, not, List, ◌++◌, eqb, length, drop, get_or, length-append, length-drop, take_all, length-take-le, w8, Fits, eqb-true}
+use borrow.Author.Tests.{not-false}
 use Rattle.laws.proofs.Lists.{parts_join}
 use Rattle.numbers.specs.Bytes.{num16, AllBytes}
 use Rattle.numbers.proofs.Back.{two_given, four_given, drop_small, part_small}

@@ -1,10 +1,6 @@
 -- The slots of a body: where each stands, and how they are read one after the other, at a general slot.
-use Prim.Native.Nat.{ℕ, ◌+◌, ◌-◌, ◌*◌, ◌<◌}
-use native.Mathlib.Omega.{arith}
-use mathlib.Core.Path.{◌≡◌, sym, ◌∙◌, ap}
-use mathlib.Core.List.{List}
-use lib.ListN.{set, take, drop}
-use borrow.Author.Tests.{le-leb, lt-leb}
+use Rattle.std.proofs.Common.{ℕ, ◌+◌, ◌-◌, ◌*◌, ◌<◌, arith, ◌≡◌, sym, ◌∙◌, ap, List, set, take, drop, le-leb}
+use borrow.Author.Tests.{lt-leb}
 use Rattle.laws.proofs.Lists.{tabulate_at, swept_none, swept_next}
 use Rattle.numbers.proofs.Pieces.{number_part}
 use Rattle.rules.specs.declared.Slot.{Slot}

@@ -1,10 +1,6 @@
 -- A trailer is taken exactly when it meets 14 to 18.
-use Prim.Native.Nat.{ℕ, ◌+◌, ◌*◌, ◌≤◌}
-use native.Mathlib.Omega.{arith}
-use mathlib.Core.Path.{◌≡◌, refl}
-use mathlib.Core.Bool.{true, ◌&&◌}
-use lib.Dec.{leb, ltb, eqb}
-use borrow.Author.Tests.{ltb-false, leb-true, eqb-true, le-ltb, le-leb, eq-eqb, not-false}
+use Rattle.std.proofs.Common.{ℕ, ◌+◌, ◌*◌, ◌≤◌, arith, ◌≡◌, refl, true, ◌&&◌, leb, ltb, eqb, ltb-false, leb-true, eqb-true, le-ltb, le-leb, eq-eqb}
+use borrow.Author.Tests.{not-false}
 use Rattle.laws.proofs.Tests.{and_hold, and_of, or_none, or_of}
 use Rattle.rules.specs.Verdict.{Accepted}
 use Rattle.rules.specs.Verdict.{first_refusal}

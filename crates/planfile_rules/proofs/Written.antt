@@ -1,11 +1,6 @@
 -- A plan written as a file: how long it is, what the writer answers and leaves, and that it is read back.
-use Prim.Native.Nat.{ℕ, ◌+◌, ◌-◌, ◌*◌, ◌≤◌}
-use native.Mathlib.Omega.{arith}
-use mathlib.Core.Path.{◌≡◌, refl, sym, ◌∙◌, ap}
-use mathlib.Core.List.{List, ◌++◌}
-use lib.ListN.{length, take, drop, get_or, length-append}
-use lib.Seq.{take_at, drop_at, take-append_seam, get_or-append-add, get_or-drop}
-use borrow.Author.Tests.{lt-ltb, le-ltb, ltb-false, eq-eqb}
+use Rattle.std.proofs.Common.{ℕ, ◌+◌, ◌-◌, ◌*◌, ◌≤◌, arith, ◌≡◌, refl, sym, ◌∙◌, ap, List, ◌++◌, length, take, drop, get_or, length-append, take_at, drop_at, get_or-append-add, get_or-drop, lt-ltb, le-ltb, ltb-false, eq-eqb}
+use lib.Seq.{take-append_seam}
 use Rattle.laws.specs.Written.{Written}
 use Rattle.laws.proofs.Writes.{at_front}
 use Rattle.numbers.specs.Bytes.{num16, num32, two_bytes, four_bytes}

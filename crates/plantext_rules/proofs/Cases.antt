@@ -1,6 +1,5 @@
 -- The worked texts, computed.
-use mathlib.Core.Path.{◌≡◌, refl}
-use mathlib.Core.List.{map}
+use Rattle.std.proofs.Common.{◌≡◌, refl, map}
 use Rattle.laws.specs.Tests.{all_of, any_of, lowest}
 use Rattle.laws.specs.Lists.{tabulate, joined}
 use Rattle.rules.specs.Verdict.{first_refusal}

@@ -1,11 +1,5 @@
 -- A reader that comes through the fields of a line, and to its end.
-use Prim.Native.Nat.{ℕ, ◌+◌, ◌-◌, ◌^◌, ◌<◌}
-use native.Mathlib.Omega.{arith}
-use mathlib.Core.Path.{◌≡◌, refl, ◌∙◌, ap}
-use mathlib.Core.Bool.{true, false}
-use mathlib.Core.List.{◌∷◌}
-use lib.ListN.{length}
-use borrow.Author.Tests.{ne_eqb, eq-eqb, le-leb}
+use Rattle.std.proofs.Common.{ℕ, ◌+◌, ◌-◌, ◌^◌, ◌<◌, arith, ◌≡◌, refl, ◌∙◌, ap, true, false, ◌∷◌, length, ne_eqb, eq-eqb, le-leb}
 use Rattle.rules.specs.declared.Plan.{Plan}
 use Rattle.text_rules.specs.Decimal.{decimal}
 use Rattle.plantext_rules.specs.declared.Stand.{Stand}

@@ -1,11 +1,5 @@
 -- A reader that comes through a number, digit by digit.
-use Prim.Native.Nat.{ℕ, ◌+◌, ◌-◌, ◌*◌, ◌/◌, ◌%◌, ◌^◌, ◌≤◌, ◌<◌}
-use native.Mathlib.Omega.{arith}
-use native.Mathlib.Nat.{div-lt_iff_lt-mul, pow-suc}
-use mathlib.Core.Path.{◌≡◌, refl, ◌∙◌, ap}
-use mathlib.Core.List.{List, [], ◌∷◌, ◌++◌}
-use lib.ListN.{length, length-append}
-use borrow.Author.Tests.{lt-ltb, le-leb}
+use Rattle.std.proofs.Common.{ℕ, ◌+◌, ◌-◌, ◌*◌, ◌/◌, ◌%◌, ◌^◌, ◌≤◌, ◌<◌, arith, div-lt_iff_lt-mul, pow-suc, ◌≡◌, refl, ◌∙◌, ap, List, [], ◌∷◌, ◌++◌, length, length-append, lt-ltb, le-leb}
 use Rattle.rules.specs.declared.Plan.{Plan}
 use Rattle.text_rules.specs.Decimal.{digit, decimal}
 use Rattle.text_rules.proofs.Decimals.{one_digit, last_digit, digits_few, digit_by_digit}

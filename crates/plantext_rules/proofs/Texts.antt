@@ -1,11 +1,6 @@
 -- The text of an accepted plan is read back as that plan.
-use Prim.Native.Nat.{ℕ, zero, suc, ◌+◌, ◌≤◌, ◌<◌}
-use native.Mathlib.Omega.{arith}
-use mathlib.Core.Path.{◌≡◌, refl, sym, ◌∙◌, ap}
-use mathlib.Core.List.{List}
-use lib.Dec.{leb, eqb}
-use lib.ListN.{length, get_or}
-use borrow.Author.Tests.{ne_eqb, lt-leb, eqb-true, leb-false}
+use Rattle.std.proofs.Common.{ℕ, zero, suc, ◌+◌, ◌≤◌, ◌<◌, arith, ◌≡◌, refl, sym, ◌∙◌, ap, List, leb, eqb, length, get_or, ne_eqb, eqb-true, leb-false}
+use borrow.Author.Tests.{lt-leb}
 use Rattle.laws.specs.Lists.{swept, joined}
 use Rattle.laws.proofs.Lists.{tabulate_same, tabulate_back, swept_length, swept_none, swept_rest, swept_next}
 use Rattle.laws.proofs.Tests.{case, tests}
