@@ -33,6 +33,7 @@ fn lower(found: Option<Refusal>, line: Option<u8>, index: usize) -> Option<Refus
 }
 
 // The verdict on a plan: accepted, or the first line of the table that it breaks, with that line's lowest index.
+#[tactic(auto, using(crate::proofs::Least::one_more), unfolding(crate::proofs::Verdict::found, crate::proofs::Least::lowest_of))]
 pub fn check(p: Plan) -> Verdict
     ensures { result ≡ plan_verdict p }
 {

@@ -106,6 +106,7 @@ fn device_formed(p: Plan, i: u8, s: Slot, d: Device) -> bool
 }
 
 // A state that a tick or a run may start from, under this plan.
+#[tactic(auto, using(crate::proofs::Devices::begun, crate::proofs::Devices::next, crate::proofs::Devices::all_formed, crate::proofs::Devices::base_broken))]
 pub fn well_formed(p: Plan, y: Yard) -> bool
     ensures { result ≡ well_formed p y }
 {

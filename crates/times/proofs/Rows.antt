@@ -1,7 +1,7 @@
 -- What stands in the row of a plan's times, and how it is written.
-use Rattle.std.proofs.Common.{ℕ, ◌+◌, ◌-◌, ◌*◌, ◌/◌, ◌%◌, ◌<◌, arith, ◌≡◌, refl, sym, ◌∙◌, ap, List, get_or, set}
-use Rattle.laws.specs.Lists.{swept}
-use Rattle.laws.proofs.Lists.{tabulate_at, swept_next}
+use Rattle.std.proofs.Common.{ℕ, ◌+◌, ◌-◌, ◌*◌, ◌/◌, ◌%◌, ◌<◌, arith, ◌≡◌, refl, sym, ◌∙◌, ap, List, get_or, set, replicate}
+use Rattle.laws.specs.Lists.{swept, tabulate}
+use Rattle.laws.proofs.Lists.{tabulate_at, swept_next, swept_none, swept_all}
 use Rattle.rules.specs.declared.Slot.{Slot}
 use Rattle.rules.specs.Plan.{empty_slot}
 use Rattle.times.specs.Times.{time_of, row_of}
@@ -50,3 +50,13 @@ module _ (Q : ℕ) (slots : List Slot) where
         (next_time _ 2 (6 * k + 2) _ _ (omega arith) refl (omega arith) (ap (λ (z : Slot). z.E) s_is)
         (next_time _ 1 (6 * k + 1) _ _ (omega arith) refl (omega arith) refl
         (next_time l 0 (6 * k) _ _ (omega arith) (omega arith) (omega arith) (ap (λ (z : Slot). z.F) s_is) l_is)))))
+
+  pub begun : replicate 48 0 ≡ row_to 0
+  unfolding tabulate
+  begun = sym (swept_none time_of_lem (λ j. 0) 48)
+
+  pub ended : (row : List ℕ) (k : ℕ) → row ≡ row_to (6 * k) → k ≡ 8 → row ≡ row_of Q slots
+  unfolding row_of
+  ended row k row_is eight =
+      let all : 6 * k ≡ 48 = omega arith in
+      rw all at row_is ∙ swept_all time_of_lem (λ j. 0) 48
