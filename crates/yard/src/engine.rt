@@ -70,6 +70,9 @@ pub(crate) struct Stepped {
     pub down: Option<Down>,
 }
 
+// Stays: one function of more than 40 lines, and the initializer's turn apart from the participants'. With the inner loop as a
+// function of its own, or with one loop over all devices, a tick took a quarter to four times longer (docs/DECISIONS.md, 32).
+//
 // As many ticks as asked, from a state that is well formed under a plan that is accepted; the buffer has room. Beyond
 // its end a roll has records of zeros.
 pub(crate) fn roll_on(p: Plan, y: Yard, roll: &[u8], ticks: usize, engaged: &mut [u8]) -> Stepped
