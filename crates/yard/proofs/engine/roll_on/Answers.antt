@@ -73,38 +73,10 @@ loop-i-preserved c =
           (moves inv false 0 (participant o here.i low) w.rise-up.ensures w.rebit-byte.ensures).0
     ])
 
-pub pace_of-requires-in-loop-k : goal.pace_of-requires-in-loop-k
-pace_of-requires-in-loop-k c = c.loop-i.invariant.room
-
-pub rise-up-requires-in-None-pace_of : goal.rise-up-requires-in-None-pace_of
-rise-up-requires-in-None-pace_of c =
-    let done : c.loop-i.i ≡ c.index_of-last.result = omega arith in
-    rw done at c.loop-i.invariant.short
-
 pub rebit-byte-requires-in-None-pace_of : goal.rebit-byte-requires-in-None-pace_of
 rebit-byte-requires-in-None-pace_of c =
     let done : c.loop-i.i ≡ c.index_of-last.result = omega (arith, c.loop-i.invariant.within) in
     rw done at (rebits c.loop-i.invariant c.rise-up-in-None-pace_of.result.device)
-
-pub bounds-devices-at : goal.bounds-devices-at
-bounds-devices-at c =
-    let names = ap (λ (t : Terms). t.N) c.terms_of-t.ensures in
-    let few = c.loop-k.invariant.ready.few in
-    let at = c.index_of-at.ensures in
-    let to = rw c.in-Some-reached.is at c.reached.ensures.in_the_yard in
-    omega arith
-
-pub bounds-devices-at-in-Some-reached : goal.bounds-devices-at-in-Some-reached
-bounds-devices-at-in-Some-reached c =
-    let names = ap (λ (t : Terms). t.N) c.terms_of-t.ensures in
-    let few = c.loop-k.invariant.ready.few in
-    let at = c.index_of-at.ensures in
-    let to = rw c.in-Some-reached.is at c.reached.ensures.in_the_yard in
-    omega arith
-
-pub bounds-engaged-k : goal.bounds-engaged-k
-bounds-engaged-k c =
-    omega (arith, c.requires.ticks_in_bounds, c.loop-k.invariant.room)
 
 pub loop-k-preserved : goal.loop-k-preserved
 loop-k-preserved c =
@@ -167,13 +139,3 @@ loop-k-preserved c =
     let down = sends p y r last own n own_is own_in left _ _ _ byte m come.0 come.1 m_is end.0 in
     rolls p a.y a.roll.now a.engaged.now last c.requires.sound.0 c.requires.sound.1 _ y _ _ _ _ _ byte r
     c.loop-k.invariant (omega (arith, c.requires.ticks_in_bounds)) c.record_at-r.ensures yard down end.1
-
-pub shape_of-engaged : goal.shape_of-engaged
-shape_of-engaged c = c.loop-k.invariant.room
-
-pub returns : goal.returns
-returns c =
-    let inv = c.loop-k.invariant in
-    let ticks : ℕ = c.args.ticks in
-    let all : c.loop-k.k ≡ ticks = omega arith in
-    record { yard_after = (rw all at inv.yard, rw all at inv.down); engaged_after = rw all at inv.bytes }
