@@ -43,6 +43,7 @@ fn put_devices(devices: [Device; 8], out: &mut [u8])
 
 // A yard's bytes at the front of a buffer; the answer is how many bytes were written, none in a shorter buffer. Later bytes
 // keep their value.
+#[tactic(auto, unfolding(layout_rules::specs::Bytes::yard_written))]
 pub fn put(y: Yard, out: &mut [u8]) -> usize
     ensures value { result ≡ length (yard_written y (length out.old)) }
     ensures out_after { out.new ≡ yard_written y (length out.old) ++ drop result out.old }

@@ -1,13 +1,8 @@
-use Rattle.std.proofs.Common.{arith, refl, le-leb}
-use borrow.Author.Tests.{lt-leb}
+use Rattle.std.proofs.Common.{arith, le-leb}
 use Rattle.laws.proofs.Writes.{and_then, at_front}
 use Rattle.layout_rules.specs.Bytes.{yard_size, yard_bytes, yard_written}
 use Rattle.layout_rules.proofs.Widths.{yard_wide}
 use Rattle.layout.proofs.yard.put.Goals as goal
-
-pub returns-then-out-lt-YARD_SIZE : goal.returns-then-out-lt-YARD_SIZE
-unfolding yard_written
-returns-then-out-lt-YARD_SIZE c = rw (lt-leb yard_size _ c.if-out-lt-YARD_SIZE.true) record { value = refl; out_after = refl }
 
 pub returns : goal.returns
 unfolding yard_written yard_bytes
