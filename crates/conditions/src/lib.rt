@@ -11,6 +11,14 @@ ghost use Rattle.conditions.specs.Lines.{size_holds, yard_times, device_times, p
 use lease::stay;
 use rules::Slot;
 
+// What the lines of the table hold a plan's other numbers against: how many devices it has, the wait W, and LS.
+#[derive(Clone, Copy)]
+pub struct Yardstick {
+    pub n: u16,
+    pub w: u16,
+    pub ls: u32,
+}
+
 fn product(a: u16, b: u16) -> u32
     ensures { result ≡ a * b }
 {
@@ -61,35 +69,10 @@ fn all_zero(s: Slot) -> bool
     (s.F == 0) & (s.E == 0) & (s.R == 0) & (s.X == 0) & (s.G == 0) & (s.S == 0)
 }
 
-fn c2(n: u16, w: u16, ls: u32) -> bool
-    ensures { result ≡ c2_holds n w ls }
-{
-    product(n, w) < ls
-}
-
-fn c3(n: u16, w: u16, q: u16, ls: u32) -> bool
-    ensures { result ≡ c3_holds n w q ls }
-{
-    (product(n.saturating_sub(1), w) < u32::from(q)) & (u32::from(q) < ls)
-}
-
-// With k devices before it: a byte, so that the sum fits.
-fn c4(k: u8, w: u16, ls: u32, s: Slot) -> bool
-    ensures { result ≡ c4_holds k w ls s }
-{
-    product(u16::from(k), w) + stay(s) <= ls
-}
-
 fn c5(s: Slot, next: Slot) -> bool
     ensures { result ≡ c5_holds s next }
 {
     u32::from(s.E) + u32::from(s.G) < u32::from(next.E)
-}
-
-fn c6(w: u16, s: Slot, next: Slot) -> bool
-    ensures { result ≡ c6_holds w s next }
-{
-    u32::from(w) + stay(next) < u32::from(s.E) + u32::from(s.R)
 }
 
 fn c7(s: Slot) -> bool
@@ -98,67 +81,7 @@ fn c7(s: Slot) -> bool
     s.S < s.X
 }
 
-// The first broken line at the yard's index, if one is broken.
-#[tactic(auto, unfolding(crate::specs::Lines::yard_line))]
-pub fn yard_line(n: u16, w: u16, b: u16, q: u16, ls: u32) -> Option<u8>
-    ensures { result ≡ yard_line n w b q ls }
-{
-    if !size_holds(n) {
-        return Some(1);
-    }
-    if !yard_times(w, b, q) {
-        return Some(2);
-    }
-    if !c2(n, w, ls) {
-        return Some(4);
-    }
-    if !c3(n, w, q, ls) {
-        return Some(5);
-    }
-    None
-}
-
-// The same at a device that makes a pair with the next.
-#[tactic(auto, unfolding(crate::specs::Lines::pair_line))]
-fn pair_line(k: u8, w: u16, ls: u32, s: Slot, next: Slot) -> Option<u8>
-    ensures { result ≡ pair_line k w ls s next }
-{
-    if !(device_times(s) & pair_times(s)) {
-        return Some(2);
-    }
-    if !c4(k, w, ls, s) {
-        return Some(6);
-    }
-    if !c5(s, next) {
-        return Some(7);
-    }
-    if !c6(w, s, next) {
-        return Some(8);
-    }
-    if !c7(s) {
-        return Some(9);
-    }
-    None
-}
-
-// The same at device N.
-#[tactic(auto, unfolding(crate::specs::Lines::last_line))]
-fn last_line(k: u8, w: u16, ls: u32, s: Slot) -> Option<u8>
-    ensures { result ≡ last_line k w ls s }
-{
-    if !device_times(s) {
-        return Some(2);
-    }
-    if !no_spacing(s) {
-        return Some(3);
-    }
-    if !c4(k, w, ls, s) {
-        return Some(6);
-    }
-    None
-}
-
-// The same at a slot above N.
+// The line that is broken at a slot above N, if it is.
 #[tactic(auto, unfolding(crate::specs::Lines::unused_line))]
 fn unused_line(s: Slot) -> Option<u8>
     ensures { result ≡ unused_line s }
@@ -169,17 +92,104 @@ fn unused_line(s: Slot) -> Option<u8>
     None
 }
 
-// The same at the slot with k slots before it.
-#[tactic(auto, unfolding(crate::specs::Lines::slot_line))]
-pub fn slot_line(k: u8, n: u16, w: u16, ls: u32, s: Slot, next: Slot) -> Option<u8>
-    ensures { result ≡ slot_line k n w ls s next }
-{
-    let i = u16::from(k) + 1;
-    if i < n {
-        return pair_line(k, w, ls, s, next);
+impl Yardstick {
+    fn c2(self) -> bool
+        ensures { result ≡ c2_holds self.n self.w self.ls }
+    {
+        product(self.n, self.w) < self.ls
     }
-    if i == n {
-        return last_line(k, w, ls, s);
+
+    fn c3(self, q: u16) -> bool
+        ensures { result ≡ c3_holds self.n self.w q self.ls }
+    {
+        (product(self.n.saturating_sub(1), self.w) < u32::from(q)) & (u32::from(q) < self.ls)
     }
-    unused_line(s)
+
+    // With k devices before it: a byte, so that the sum fits.
+    fn c4(self, k: u8, s: Slot) -> bool
+        ensures { result ≡ c4_holds k self.w self.ls s }
+    {
+        product(u16::from(k), self.w) + stay(s) <= self.ls
+    }
+
+    fn c6(self, s: Slot, next: Slot) -> bool
+        ensures { result ≡ c6_holds self.w s next }
+    {
+        u32::from(self.w) + stay(next) < u32::from(s.E) + u32::from(s.R)
+    }
+
+    // The first broken line at the yard's index, if one is broken.
+    #[tactic(auto, unfolding(crate::specs::Lines::yard_line))]
+    pub fn yard_line(self, b: u16, q: u16) -> Option<u8>
+        ensures { result ≡ yard_line self.n self.w b q self.ls }
+    {
+        if !size_holds(self.n) {
+            return Some(1);
+        }
+        if !yard_times(self.w, b, q) {
+            return Some(2);
+        }
+        if !self.c2() {
+            return Some(4);
+        }
+        if !self.c3(q) {
+            return Some(5);
+        }
+        None
+    }
+
+    // The same at a device that makes a pair with the next.
+    #[tactic(auto, unfolding(crate::specs::Lines::pair_line))]
+    fn pair_line(self, k: u8, s: Slot, next: Slot) -> Option<u8>
+        ensures { result ≡ pair_line k self.w self.ls s next }
+    {
+        if !(device_times(s) & pair_times(s)) {
+            return Some(2);
+        }
+        if !self.c4(k, s) {
+            return Some(6);
+        }
+        if !c5(s, next) {
+            return Some(7);
+        }
+        if !self.c6(s, next) {
+            return Some(8);
+        }
+        if !c7(s) {
+            return Some(9);
+        }
+        None
+    }
+
+    // The same at device N.
+    #[tactic(auto, unfolding(crate::specs::Lines::last_line))]
+    fn last_line(self, k: u8, s: Slot) -> Option<u8>
+        ensures { result ≡ last_line k self.w self.ls s }
+    {
+        if !device_times(s) {
+            return Some(2);
+        }
+        if !no_spacing(s) {
+            return Some(3);
+        }
+        if !self.c4(k, s) {
+            return Some(6);
+        }
+        None
+    }
+
+    // The same at the slot with k slots before it.
+    #[tactic(auto, unfolding(crate::specs::Lines::slot_line))]
+    pub fn slot_line(self, k: u8, s: Slot, next: Slot) -> Option<u8>
+        ensures { result ≡ slot_line k self.n self.w self.ls s next }
+    {
+        let i = u16::from(k) + 1;
+        if i < self.n {
+            return self.pair_line(k, s, next);
+        }
+        if i == self.n {
+            return self.last_line(k, s);
+        }
+        unused_line(s)
+    }
 }

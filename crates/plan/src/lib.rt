@@ -8,7 +8,7 @@ ghost use Rattle.std.specs.Prelude.{◌≡◌, ◌<◌};
 ghost use Rattle.rules.specs.Table.{plan_verdict};
 ghost use Rattle.plan.specs.Places.{place_after, lower};
 
-use conditions::{slot_line, yard_line};
+use conditions::Yardstick;
 use lease::lease_length;
 use rules::{Plan, Refusal, Verdict};
 
@@ -37,11 +37,15 @@ fn lower(found: Option<Refusal>, line: Option<u8>, index: usize) -> Option<Refus
 pub fn check(p: Plan) -> Verdict
     ensures { result ≡ plan_verdict p }
 {
-    let ls = lease_length(p);
-    let mut found = lower(None, yard_line(p.N, p.W, p.B, p.Q, ls), 0);
+    let yardstick = Yardstick {
+        n: p.N,
+        w: p.W,
+        ls: lease_length(p),
+    };
+    let mut found = lower(None, yardstick.yard_line(p.B, p.Q), 0);
     for (k, s) in p.slots.iter().enumerate() {
         let next = p.slots[place_after(k)];
-        found = lower(found, slot_line(k as u8, p.N, p.W, ls, *s, next), k + 1);
+        found = lower(found, yardstick.slot_line(k as u8, *s, next), k + 1);
     }
     match found {
         None => Ok(()),
