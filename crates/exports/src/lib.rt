@@ -24,6 +24,7 @@ pub extern "C" fn wilatkhun_check(plan: &[u8], index: &mut usize) -> u8
     answer(check_for(plan), index)
 }
 
+#[tactic(auto, using(exports_rules::proofs::Lengths::fresh_sized, exports_rules::proofs::Lengths::fresh_same))]
 #[unsafe(no_mangle)]
 pub extern "C" fn wilatkhun_fresh(plan: &[u8], yard: &mut [u8], index: &mut usize) -> u8
     ensures { Freshened plan.now yard.old yard.new result index.new }
@@ -33,6 +34,7 @@ pub extern "C" fn wilatkhun_fresh(plan: &[u8], yard: &mut [u8], index: &mut usiz
     answer(a.verdict, index)
 }
 
+#[tactic(auto, using(exports_rules::proofs::Lengths::tick_sized))]
 #[unsafe(no_mangle)]
 pub extern "C" fn wilatkhun_tick(
     plan: &[u8],
@@ -60,6 +62,7 @@ pub extern "C" fn wilatkhun_tick(
     answer(a.verdict, index)
 }
 
+#[tactic(auto, using(exports_rules::proofs::Lengths::run_sized))]
 #[unsafe(no_mangle)]
 pub extern "C" fn wilatkhun_run(
     plan: &[u8],
@@ -78,6 +81,7 @@ pub extern "C" fn wilatkhun_run(
     answer(a.verdict, index)
 }
 
+#[tactic(auto, using(exports_rules::proofs::Lengths::read_sized))]
 #[unsafe(no_mangle)]
 pub extern "C" fn wilatkhun_read(file: &[u8], plan: &mut [u8], index: &mut usize) -> u8
     ensures { Taken file.now plan.old plan.new result index.new }
@@ -87,6 +91,7 @@ pub extern "C" fn wilatkhun_read(file: &[u8], plan: &mut [u8], index: &mut usize
     answer(a.verdict, index)
 }
 
+#[tactic(auto, using(exports_rules::proofs::Zero::zero_written))]
 #[unsafe(no_mangle)]
 pub extern "C" fn wilatkhun_write(
     plan: &[u8],
@@ -119,6 +124,7 @@ pub extern "C" fn wilatkhun_header(n: u16, out: &mut [u8], at: usize) -> usize
     listing::header(n, out, at)
 }
 
+#[tactic(auto, using(exports_rules::proofs::Lengths::list_sized))]
 #[unsafe(no_mangle)]
 pub extern "C" fn wilatkhun_list(
     plan: &[u8],
