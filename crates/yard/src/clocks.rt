@@ -1,8 +1,7 @@
 // Step 1: the clocks that add 1. Callers have seen that the state is well formed, so that no clock is near the end of its
 // type; nothing else in a tick adds to a clock.
 //
-// Stays: that a clock may still add 1 is asked by each function on the way. `tick` and `run` take a state whose clocks are any
-// numbers, and refusal 11 alone tells; so no type of theirs can promise it, and a clock that saturates is another definition.
+// Stays: each function asks that a clock may add 1: `tick` and `run` take any clocks (refusal 11), so no type promises it.
 ghost use Rattle.std.specs.Prelude.{◌≡◌, ◌≤◌};
 ghost use Rattle.rules.specs.Tick.Step1.{place_clock, lease_clock, device_clock};
 ghost use Rattle.pace.specs.Pace.{clocked_by};

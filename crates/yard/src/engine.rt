@@ -70,8 +70,7 @@ pub(crate) struct Stepped {
     pub down: Option<Down>,
 }
 
-// Stays: one function of more than 40 lines, and the initializer's turn apart from the participants'. With the inner loop as a
-// function of its own, or with one loop over all devices, a tick took a quarter to four times longer (docs/DECISIONS.md, 32).
+// Stays: one long function, the initializer's turn apart: tried otherwise, a tick took 1.2 to 4 times as long (DECISIONS, 32).
 //
 // As many ticks as asked, from a state that is well formed under a plan that is accepted; the buffer has room. Beyond
 // its end a roll has records of zeros.
