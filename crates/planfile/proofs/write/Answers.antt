@@ -1,13 +1,8 @@
-use Prim.Native.Nat.{ℕ}
-use native.Mathlib.Omega.{arith}
-use mathlib.Core.Path.{◌≡◌}
-use mathlib.Core.List.{List}
-use lib.ListN.{length}
+use Rattle.std.proofs.Common.{ℕ, ◌≡◌, List, length, arith}
 use Rattle.laws.specs.Written.{Written}
 use Rattle.laws.proofs.Writes.{as_text, and_then}
 use Rattle.rules.specs.declared.Plan.{Plan}
-use Rattle.rules.specs.Verdict.{Verdict}
-use Rattle.rules.specs.Verdict.{Accepted}
+use Rattle.rules.specs.Verdict.{Verdict, Accepted}
 use Rattle.rules.proofs.Answers.{not_both}
 use Rattle.planfile_rules.specs.Writing.{body_bytes, body_written, file_bytes, write_verdict}
 use Rattle.planfile_rules.proofs.Written.{nothing_written, few_devices, has_room, all_written}
