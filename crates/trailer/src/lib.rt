@@ -35,11 +35,16 @@ fn read_trailer(ten: &[u8]) -> Trailer
     }
 }
 
-// The trailer in a file's last ten bytes; in all of them where there are fewer.
+// The trailer in a file's last ten bytes; in all of them where there are fewer. Where a part's length is plain, no byte of it has
+// to be looked for.
 pub fn trailer_of(file: &[u8]) -> Trailer
     ensures { result ≡ trailer_of file.now }
 {
-    let last = file.len().saturating_sub(10);
+    let len = file.len();
+    if len < 10 {
+        return read_trailer(file);
+    }
+    let last = len - 10;
     read_trailer(&file[last..])
 }
 
