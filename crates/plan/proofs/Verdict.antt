@@ -11,7 +11,7 @@ use Rattle.rules.proofs.Plans.Table.{slot_at, accepted_line, refused_line}
 use Rattle.conditions.specs.Lines.{size_holds, yard_line, slot_line}
 use Rattle.rules.specs.declared.Refusal.{Refusal}
 use Rattle.plan.specs.Places.{place_after}
-use Rattle.plan.proofs.Least.{Least, IsLowest, lowest_of, lowest_is}
+use Rattle.plan.proofs.Least.{Least, IsLowest, lowest_of, lowest_is, refusal_at}
 use Rattle.plan.proofs.Lines.{first_of, first_line, as_line, InTable, yard_first, slot_first, yard_in_table, not_first, wrong_size, few}
 
 -- The first of a list that holds, counted from k: it holds there, and nothing before it does.
@@ -167,9 +167,10 @@ module _ (p : Plan) where
     same : (r : Option Refusal) → r ≡ lowest_of (found p ls) k → IsLowest lines 8 r
     same r e = rw (e, ls_is, all) (lowest_is finds all_in_table 8)
 
-    pub ends_accepted : (r : Option Refusal) → r ≡ lowest_of (found p ls) k → r ≡ None → Accepted ≡ plan_verdict p
-    ends_accepted r e n = found_none (rw n at (same r e))
+    pub ends_accepted : (line : Option ℕ) (at : ℕ) → refusal_at line at ≡ lowest_of (found p ls) k → line ≡ None → Accepted ≡ plan_verdict p
+    ends_accepted line at e n = found_none (rw n at (same (refusal_at line at) e))
 
     pub ends_refused :
-        (r : Option Refusal) (x : Refusal) → r ≡ lowest_of (found p ls) k → r ≡ Some x → Err x ≡ plan_verdict p
-    ends_refused r x e s = found_some x (rw s at (same r e))
+        (line : Option ℕ) (at number : ℕ)
+        → refusal_at line at ≡ lowest_of (found p ls) k → line ≡ Some number → Refused number at ≡ plan_verdict p
+    ends_refused line at number e s = found_some (record { number = number; index = at }) (rw s at (same (refusal_at line at) e))

@@ -20,20 +20,18 @@ fn place_after(k: usize) -> usize
     k.min(6) + 1
 }
 
-// What has been found, after one more index at which `line` is the first that is broken: the lower line, and of two that are
-// the same the one that was found before.
-fn lower(found: Option<Refusal>, line: Option<u8>, index: usize) -> Option<Refusal>
-    ensures { result ≡ lower found line index }
+// Whether a line that was found stands before the one that was found before it; none stands behind all.
+fn lower(found: Option<u8>, line: Option<u8>) -> bool
+    ensures { result ≡ lower found line }
 {
     match (found, line) {
-        (_, None) => found,
-        (Some(refusal), Some(number)) if refusal.number <= number => found,
-        (_, Some(number)) => Some(Refusal { number, index }),
+        (None, _) => false,
+        (Some(_), None) => true,
+        (Some(a), Some(b)) => a < b,
     }
 }
 
 // The verdict on a plan: accepted, or the first line of the table that it breaks, with that line's lowest index.
-#[tactic(auto, using(crate::proofs::Least::one_more), unfolding(crate::proofs::Verdict::found, crate::proofs::Least::lowest_of))]
 pub fn check(p: Plan) -> Verdict
     ensures { result ≡ plan_verdict p }
 {
@@ -42,13 +40,19 @@ pub fn check(p: Plan) -> Verdict
         w: p.W,
         ls: lease_length(p),
     };
-    let mut found = lower(None, yardstick.yard_line(p.B, p.Q), 0);
+    // Stays: line and index apart until the end: an `Option<Refusal>` kept through the loop doubled a check's time (`./measure`).
+    let mut line = yardstick.yard_line(p.B, p.Q);
+    let mut at: usize = 0;
     for (k, s) in p.slots.iter().enumerate() {
         let next = p.slots[place_after(k)];
-        found = lower(found, yardstick.slot_line(k as u8, *s, next), k + 1);
+        let found = yardstick.slot_line(k as u8, *s, next);
+        if lower(found, line) {
+            line = found;
+            at = k + 1;
+        }
     }
-    match found {
+    match line {
         None => Ok(()),
-        Some(refusal) => Err(refusal),
+        Some(number) => Err(Refusal { number, index: at }),
     }
 }
