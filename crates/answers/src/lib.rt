@@ -40,6 +40,7 @@ pub fn piece_slice(piece: Piece) -> u8
     }
 }
 
+// Stays: a function for each number of a piece, for C takes them one by one.
 pub fn piece_start(piece: Piece) -> usize
     ensures { result ≡ start_of piece }
 {

@@ -53,6 +53,7 @@ fn stays(base: Base, clocks: Clocks) -> BaseMove
     }
 }
 
+// Stays: two functions, for `below` takes either as its kind, as the definition does (`step3.below step3.cancels`).
 fn cancels(i: u8, lease: u32) -> BaseMove
     ensures { result ≡ step3.cancels i lease }
 {

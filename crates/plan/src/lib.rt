@@ -35,6 +35,7 @@ fn lower(found: Option<u8>, line: Option<u8>) -> bool
 pub fn check(p: Plan) -> Verdict
     ensures { result ≡ plan_verdict p }
 {
+    let slots = p.slots;
     let yardstick = Yardstick {
         n: p.N,
         w: p.W,
@@ -43,8 +44,8 @@ pub fn check(p: Plan) -> Verdict
     // Stays: line and index apart until the end: an `Option<Refusal>` kept through the loop doubled a check's time (`./measure`).
     let mut line = yardstick.yard_line(p.B, p.Q);
     let mut at: usize = 0;
-    for (k, s) in p.slots.iter().enumerate() {
-        let next = p.slots[place_after(k)];
+    for (k, s) in slots.iter().enumerate() {
+        let next = slots[place_after(k)];
         let found = yardstick.slot_line(k as u8, *s, next);
         if lower(found, line) {
             line = found;

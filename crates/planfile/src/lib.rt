@@ -59,6 +59,7 @@ pub fn read(file: &[u8]) -> ReadAnswer
 }
 
 // Where a file's body lies, for whoever wants to show it; nothing at 0 where its trailer is not taken.
+// Stays: no `Option<Span>`: the definition `body_span` answers for every file, and the finder's `file_start` rests on that.
 pub fn body_span(file: &[u8]) -> Span
     ensures { result ≡ body_span file.now }
 {

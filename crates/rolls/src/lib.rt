@@ -111,6 +111,7 @@ pub fn first_bad(p: Plan, roll: &[u8]) -> usize
     let willing = bound(p.N.saturating_sub(1));
     let lost = bound(p.N);
     let count = records(roll);
+    // Stays: the number of records for none, and no `Option`: so says `first_bad` of the rules, which `roll_verdict` rests on.
     for k in 0..count {
         if !within(willing, lost, record_at(roll, k)) {
             return k;

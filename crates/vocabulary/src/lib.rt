@@ -69,6 +69,7 @@ pub fn base_number(base: Base) -> u8
 }
 
 // The device of the base's place; 0 for none.
+// Stays: 0 and no `Option`, here and in `down_index`: this is the number that crosses to C (`include/wilatkhun.h`).
 pub fn base_index(base: Base) -> u8
     ensures { result ≡ base_index base }
 {
@@ -113,6 +114,7 @@ pub fn down_index(l: Option<Down>) -> u8
 }
 
 // A verdict's number and index; 0 at 0 for one that is not a refusal.
+// Stays: two functions of one shape, as document 01's answer is two numbers, and callers take either.
 pub fn number_of(v: Verdict) -> u8
     ensures { result ≡ number_of v }
 {
