@@ -7,7 +7,7 @@
 
 // The times of one device, in ticks: F (rest), E (enter), R (run), X (exit), and of the pair that it makes with
 // the next device: G (enter spacing), S (exit spacing).
-#[derive(Clone, Copy)]
+#[derive(Clone, Copy, Debug, Default, PartialEq, Eq)]
 pub struct Slot {
     pub F: u16,
     pub E: u16,
@@ -18,7 +18,7 @@ pub struct Slot {
 }
 
 // N devices, the yard's W (wait), B (base rest) and Q (request limit), and eight device slots: device i's is slots[i - 1].
-#[derive(Clone, Copy)]
+#[derive(Clone, Copy, Debug, Default, PartialEq, Eq)]
 pub struct Plan {
     pub N: u16,
     pub W: u16,
@@ -28,6 +28,7 @@ pub struct Plan {
 }
 
 // Why a call refuses its input: document 01's number and index. An index may be a record's number in a roll of any length.
+// Stays: a number and no enum: document 01 refuses by number, and `line_verdict` and `RefusedExactly` are over every k.
 #[derive(Clone, Copy, Debug, PartialEq, Eq)]
 pub struct Refusal {
     pub number: u8,
@@ -38,8 +39,9 @@ pub struct Refusal {
 pub type Verdict = Result<(), Refusal>;
 
 // Where the supervisor stands; the number is the device i of Lease i, Cancel i and Abort i, from 1.
-#[derive(Clone, Copy, Debug, PartialEq, Eq)]
+#[derive(Clone, Copy, Debug, Default, PartialEq, Eq)]
 pub enum Base {
+    #[default]
     FallBack,
     Lease(u8),
     Cancel(u8),
@@ -47,8 +49,9 @@ pub enum Base {
 }
 
 // Where a device stands. Only the initializer is ever in Requesting.
-#[derive(Clone, Copy, Debug, PartialEq, Eq)]
+#[derive(Clone, Copy, Debug, Default, PartialEq, Eq)]
 pub enum Place {
+    #[default]
     FallBack,
     Requesting,
     Entering,
@@ -69,7 +72,7 @@ pub enum Letter {
 
 // Each device holds its place, its clock and at most one letter waiting to go up. In this order a device takes six bytes, and a
 // clock is stored without touching the place beside it; with the clock first it would be read back whole, and wait for that.
-#[derive(Clone, Copy)]
+#[derive(Clone, Copy, Debug, Default, PartialEq, Eq)]
 pub struct Device {
     pub place: Place,
     pub clock: u16,
@@ -78,7 +81,7 @@ pub struct Device {
 
 // The supervisor's place with its place clock and its lease clock, and eight devices: device i is devices[i - 1].
 // The lease clock may pass 65,535; no other clock does.
-#[derive(Clone, Copy)]
+#[derive(Clone, Copy, Debug, Default, PartialEq, Eq)]
 pub struct Yard {
     pub base: Base,
     pub clock: u16,
@@ -87,13 +90,18 @@ pub struct Yard {
 }
 
 // The four bytes of one tick's input, as they stand in a roll.
-#[derive(Clone, Copy)]
+#[derive(Clone, Copy, Debug, Default, PartialEq, Eq)]
 pub struct Record {
     pub command: u8,
     pub flags: u8,
     pub willing: u8,
     pub lost: u8,
 }
+
+// The initializer's commands, in a record's first byte; 0 is none.
+pub const REQUEST: u8 = 1;
+
+pub const CANCEL: u8 = 2;
 
 // A letter that the supervisor sends down, with the device that it is for.
 #[derive(Clone, Copy, Debug, PartialEq, Eq)]
