@@ -32,7 +32,9 @@ fn open_and_fill(rt: &impl Files, path: &str, buffer: &mut [u8]) -> io::Result<u
 
 // The bytes of a file, as many as the buffer holds, at its front. A file that cannot be opened, or read to its end, has none, and
 // a line on standard error says why. A path that is no text names no file.
-pub(crate) fn load<'a>(rt: &(impl Files + Eprint), path: &[u8], buffer: &'a mut [u8]) -> &'a [u8] {
+pub(crate) fn load<'a>(rt: &(impl Files + Eprint), path: &[u8], buffer: &'a mut [u8]) -> &'a [u8]
+    ensures { length result.now ≤ length buffer.old }
+{
     let Ok(name) = str::from_utf8(path) else {
         let _ = eprintln!(rt; "a file's path is no text");
         return &[];

@@ -13,7 +13,9 @@ use std::io;
 use std::rt::Files;
 use trouble::tell;
 
-// The roll's lines, block after block. Each block but the last holds at least a thousand lines, so the turns are enough.
+// The roll's lines, block after block. A proved loop has to end: each block but the last holds a thousand lines or more, and a
+// roll has at most 10,000 ticks, so the 100 turns are more than it takes. No block has more ticks than the roll; that is tested
+// so that the proof sees that their number fits `first`.
 fn say_lines(rt: &impl Print, p: Plan, fresh: Yard, roll: &[u8]) -> io::Result<()> {
     let mut block = [0u8; 65536];
     let mut y = fresh;
@@ -47,7 +49,7 @@ fn say_header(rt: &impl Print, n: u16) -> io::Result<()> {
 }
 
 fn refuse(rt: &impl Print, refusal: Refusal) -> io::Result<()> {
-    // Stays: `impl Display for Refusal` would have to stand in `rules`, which has no running code; these two lines are as plain.
+    // Stays: DECISIONS 44, `rules` has no running code but its derives, and `impl Display for Refusal` would have to stand there.
     let Refusal { number, index } = refusal;
     println!(rt; "refused {number} {index}")
 }
