@@ -6,21 +6,15 @@ ghost use Rattle.exports_rules.specs.Asked.{size_verdict};
 ghost use Rattle.exports_rules.specs.Calls.{Answered, which_of, start_of, length_of};
 
 use finder_rules::Piece;
-use rules::{Refusal, Verdict};
-use vocabulary::{index_of, number_of};
+use rules::Verdict;
+use vocabulary::{index_of, number_of, refused_if};
 
 // A plan or a yard was lent at another length than its own.
 #[tactic(auto, unfolding(exports_rules::specs::Asked::size_verdict))]
 pub fn size_verdict(fits: bool) -> Verdict
     ensures { result ≡ size_verdict fits }
 {
-    if !fits {
-        return Err(Refusal {
-            number: 27,
-            index: 0,
-        });
-    }
-    Ok(())
+    refused_if(!fits, 27, 0)
 }
 
 // The number is answered, the index goes behind the reference.

@@ -5,10 +5,10 @@
 #![tactic(auto)]
 
 ghost use Rattle.std.specs.Prelude.{◌≡◌};
-ghost use Rattle.rules.specs.Verdict.{number_of, index_of};
+ghost use Rattle.rules.specs.Verdict.{number_of, index_of, refused_if};
 ghost use Rattle.rules.specs.Numbers.{place_number, place_of, letter_number, letter_of, base_number, base_index, base_of, down_number, down_index};
 
-use rules::{Base, Down, Letter, Place, Verdict};
+use rules::{Base, Down, Letter, Place, Refusal, Verdict};
 
 pub fn place_number(place: Place) -> u8
     ensures { result ≡ place_number place }
@@ -131,4 +131,14 @@ pub fn index_of(v: Verdict) -> usize
         Ok(()) => 0,
         Err(refusal) => refusal.index,
     }
+}
+
+// Refused by that number at that index where the test holds.
+pub fn refused_if(test: bool, number: u8, index: usize) -> Verdict
+    ensures { result ≡ refused_if test number index }
+{
+    if test {
+        return Err(Refusal { number, index });
+    }
+    Ok(())
 }
