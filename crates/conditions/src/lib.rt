@@ -12,6 +12,7 @@ use lease::stay;
 use rules::Slot;
 
 // What the lines of the table hold a plan's other numbers against: how many devices it has, the wait W, and LS.
+// Stays: not `rules::Terms`, whose N is a byte, as an accepted plan's is: here N may be any u16.
 #[derive(Clone, Copy)]
 pub struct Yardstick {
     pub n: u16,
@@ -66,7 +67,7 @@ fn no_spacing(s: Slot) -> bool
 fn all_zero(s: Slot) -> bool
     ensures { result ≡ all_zero s }
 {
-    (s.F == 0) & (s.E == 0) & (s.R == 0) & (s.X == 0) & (s.G == 0) & (s.S == 0)
+    s == Slot::default()
 }
 
 fn c5(s: Slot, next: Slot) -> bool

@@ -7,17 +7,13 @@ ghost use Rattle.rules.specs.Yard as yard;
 ghost use Rattle.rules.specs.Tick.Step2 as step2;
 ghost use Rattle.rules.specs.Tick.Step4 as step4;
 
-use rules::{Device, Down, Letter, Place, Slot};
+use rules::{CANCEL, Device, Down, Letter, Place, REQUEST, Slot};
 
 // In Fall-Back, clock 0, no letter.
 pub fn fresh_device() -> Device
     ensures { result ≡ yard.fresh_device }
 {
-    Device {
-        place: Place::FallBack,
-        clock: 0,
-        letter: None,
-    }
+    Device::default()
 }
 
 // A new place starts its clock at 0; a letter that waits stays.
@@ -96,19 +92,20 @@ fn heed_cancel(d: Device) -> Device
     }
 }
 
-// The initializer and its command: 1 request, 2 cancel; any other is none.
+// The initializer and its command; any other byte is none.
 #[tactic(auto, unfolding(rules::specs::Tick::Step2::heed))]
 fn heed(s: Slot, command: u8, d: Device) -> Device
     ensures { result ≡ step2.heed s command d }
 {
     match command {
-        1 => heed_request(s, d),
-        2 => heed_cancel(d),
+        REQUEST => heed_request(s, d),
+        CANCEL => heed_cancel(d),
         _ => d,
     }
 }
 
 // Step 2 of one device: by Q, its slot, whether it is the initializer, and the tick's command.
+// Stays: initializer and command apart: the definition `moved` of step 2 has both, and looks at no participant's command.
 #[tactic(auto, unfolding(rules::specs::Tick::Step2::moved))]
 pub fn moved(q: u16, s: Slot, initializer: bool, command: u8, d: Device) -> Device
     ensures { result ≡ step2.moved q s initializer command d }

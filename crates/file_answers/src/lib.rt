@@ -7,28 +7,14 @@ ghost use Rattle.planfile_rules.specs.File.{empty_plan, answer_of};
 ghost use Rattle.planfile_rules.specs.Writing.{room_verdict, write_verdict};
 
 use planfile_rules::ReadAnswer;
-use rules::{Plan, Slot, Verdict};
+use rules::{Plan, Verdict};
 use trailer::refusal;
 
 #[tactic(auto, unfolding(planfile_rules::specs::File::empty_plan, laws::specs::Lists::tabulate))]
 pub fn empty_plan() -> Plan
     ensures { result ≡ empty_plan }
 {
-    let slot = Slot {
-        F: 0,
-        E: 0,
-        R: 0,
-        X: 0,
-        G: 0,
-        S: 0,
-    };
-    Plan {
-        N: 0,
-        W: 0,
-        B: 0,
-        Q: 0,
-        slots: [slot; 8],
-    }
+    Plan::default()
 }
 
 // A verdict beside the plan that was read, or beside an all-zero plan where it refuses.

@@ -1,7 +1,8 @@
 // Places, letters, bases, down letters and verdicts by number: the vocabulary that comparisons, bytes and text share. A number
 // that stands for nothing is read as the first of its kind; callers that must tell have looked before. No function here has
 // a `requires`.
-// Stays: no `From`, as the types stand in `rules`; no `TryFrom`, as the contracts (and `VocabularyBack`) answer for every number.
+// Stays: no `From`: DECISIONS 44, numbers stand beside the types in definitions, and code that reads and writes them stands here.
+// Stays: no `TryFrom`: it would answer for less than the contracts (and `VocabularyBack`) do, which take every number.
 #![tactic(auto)]
 
 ghost use Rattle.std.specs.Prelude.{◌≡◌};

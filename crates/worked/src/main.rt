@@ -12,7 +12,7 @@ fn times(F: u16, E: u16, R: u16, X: u16, G: u16, S: u16) -> Slot {
 
 // A plan with two slots filled.
 fn two(N: u16, W: u16, B: u16, Q: u16, one: Slot, other: Slot) -> Plan {
-    let mut slots = [times(0, 0, 0, 0, 0, 0); 8];
+    let mut slots = [Slot::default(); 8];
     slots[0] = one;
     slots[1] = other;
     Plan { N, W, B, Q, slots }
