@@ -1,5 +1,5 @@
 // What a call leaves in the yard's or the plan's bytes: something new only where nothing is refused.
-ghost use Rattle.std.specs.Prelude.{◌≡◌, ℕ, List, ◌++◌, length, drop};
+ghost use Rattle.std.specs.Prelude.{◌≡◌, ℕ, List, length};
 ghost use Rattle.rules.specs.Verdict.{Accepted, if_accepted};
 ghost use Rattle.planfile_rules.specs.File.{plan_size};
 ghost use Rattle.planfile_rules.specs.Writing.{plan_bytes};

@@ -1,8 +1,10 @@
 // The calls for C and Rust: numbers and byte slices. include/wilatkhun.h has each contract in words, and the bytes' layout.
 //
 // A number behind a reference (index, ticks, length, start, down, device) is always written. A call that refuses changes no
-// byte of a lent buffer. No exported function has a `requires`; of the private ones, those that keep a yard or a plan rest on
-// the length that was looked at before.
+// byte of a lent buffer. No exported function has a `requires`; of the private ones, `keep` and what it puts rest on the length
+// that was looked at before.
+//
+// Stays: each call is written out, alike as some are, for C calls each by its own name and with its own numbers.
 #![tactic(auto)]
 
 mod kept;
