@@ -1,6 +1,6 @@
 // What the supervisor does in a tick (step 3), once step 1 has moved its clocks on and the letters have gone up.
 // It only compares clocks and sets them to 0, so it takes any place and any clocks, and no public function here has a
-// `requires`; two private ones take it that i is below N.
+// `requires`; two private ones take it that i is below N, and `below` takes a kind that can always be called.
 #![tactic(auto)]
 
 ghost use Rattle.std.specs.Prelude.{◌≡◌, ◌≢◌, ◌-◌, ◌<◌};

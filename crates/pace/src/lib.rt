@@ -11,7 +11,7 @@ ghost use Rattle.rules.specs.Tick.Step2.{moved};
 ghost use Rattle.rules.specs.Tick.Step4.{arrived};
 ghost use Rattle.pace.specs.Pace.{stirring, pace_by, heard_of, went_up, reached_by};
 
-use rules::{BaseMove, Device, Letter, Place, Slot};
+use rules::{BaseMove, CANCEL, Device, Letter, Place, REQUEST, Slot};
 use vocabulary::{base_index, down_index};
 
 // Bit k of a byte; from 8 on there is none.
@@ -44,9 +44,9 @@ fn stirs(time: u16, command: u8, d: Device) -> bool
 {
     let waits = d.letter.is_some();
     if d.place == Place::FallBack {
-        return waits | (command == 1);
+        return waits | (command == REQUEST);
     }
-    waits | (command == 2) | (u32::from(d.clock) + 1 >= u32::from(time))
+    waits | (command == CANCEL) | (u32::from(d.clock) + 1 >= u32::from(time))
 }
 
 // What a device does, if its clock runs to `time` in the place where it stands: in Fall-Back it stops there, elsewhere the

@@ -9,7 +9,7 @@ ghost use Rattle.rules.specs.Run.{records, left_over, ticks_to_do, record_start,
 ghost use Rattle.rolls.specs.Bounds.{Bound};
 
 use numbers::read::byte_at;
-use rules::{Plan, Record};
+use rules::{CANCEL, Plan, Record};
 
 pub const RECORD_SIZE: usize = 4;
 
@@ -73,12 +73,7 @@ pub fn record_at(roll: &[u8], k: usize) -> Record
     if k == count {
         return record_left_over(roll);
     }
-    Record {
-        command: 0,
-        flags: 0,
-        willing: 0,
-        lost: 0,
-    }
+    Record::default()
 }
 
 // The bytes whose bits k and up are zero are those below this: all of them from k = 8 on.
@@ -94,7 +89,10 @@ fn bound(k: u16) -> u16
 fn within(willing: u16, lost: u16, r: Record) -> bool
     ensures { (p : Plan) → Bound (p.N - 1) willing → Bound p.N lost → result ≡ valid_record p r }
 {
-    (r.command <= 2) & (r.flags < 4) & (u16::from(r.willing) < willing) & (u16::from(r.lost) < lost)
+    (r.command <= CANCEL)
+        & (r.flags < 4)
+        & (u16::from(r.willing) < willing)
+        & (u16::from(r.lost) < lost)
 }
 
 pub fn valid_record(p: Plan, r: Record) -> bool

@@ -14,32 +14,19 @@ ghost use Rattle.rules.specs.Tick.{tick_answer};
 ghost use Rattle.rules.specs.Run.{run_answer, run_buffer};
 ghost use Rattle.rules.specs.Promises.{Kept, shown};
 
-use device::fresh_device;
 use engine::roll_on;
 use refusals::{run_verdict, tick_verdict};
 use rolls::ticks_to_do;
-use rules::{Base, FreshAnswer, Plan, Record, RunAnswer, TickAnswer, Yard};
-
-#[tactic(auto, unfolding(rules::specs::Yard::fresh_yard))]
-fn fresh_yard() -> Yard
-    ensures { result ≡ fresh_yard }
-{
-    Yard {
-        base: Base::FallBack,
-        clock: 0,
-        lease: 0,
-        devices: [fresh_device(); 8],
-    }
-}
+use rules::{FreshAnswer, Plan, Record, RunAnswer, TickAnswer, Yard};
 
 // The verdict on the plan beside a fresh yard, which is the same for every plan, refused or not.
-#[tactic(auto, unfolding(rules::specs::Yard::fresh_answer))]
+#[tactic(auto, unfolding(rules::specs::Yard::fresh_answer, rules::specs::Yard::fresh_yard))]
 pub fn fresh(p: Plan) -> FreshAnswer
     ensures { result ≡ fresh_answer p }
 {
     FreshAnswer {
         verdict: plan::check(p),
-        yard: fresh_yard(),
+        yard: Yard::default(),
     }
 }
 
