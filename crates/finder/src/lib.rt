@@ -46,12 +46,14 @@ fn roll_piece(p: Plan, roll: &[u8]) -> Piece
     }
     let bad = first_bad(p, roll);
     if bad < records(roll) {
-        let at = record_start(roll, bad);
+        let start = record_start(roll, bad);
         let len = RECORD_SIZE;
-        return Piece::InRoll { start: at, len };
+        return Piece::InRoll { start, len };
     }
-    let end = roll.len();
-    Piece::InRoll { start: end, len: 0 }
+    Piece::InRoll {
+        start: roll.len(),
+        len: 0,
+    }
 }
 
 // Of a file and a roll, the refused piece of whichever is at fault: the last ten bytes of the file (all, if shorter) for 14 to
@@ -69,7 +71,7 @@ pub fn locate(file: &[u8], roll: &[u8]) -> Piece
 }
 
 // The n bytes of s from start.
-fn part<'a>(s: &'a [u8], start: usize, n: usize) -> &'a [u8]
+fn part(s: &[u8], start: usize, n: usize) -> &[u8]
     requires { start + n ≤ length s.now }
     ensures { PartOf result s.entry start n }
 {
