@@ -30,7 +30,11 @@ fn device_stands(bytes: &[u8], k: u8) -> bool
 fn devices_stand(bytes: &[u8]) -> bool
     ensures { result ≡ each (device_stands bytes.now) 8 }
 {
-    (0..8).all(|k| device_stands(bytes, k))
+    let mut all = true;
+    for k in 0..8 {
+        all &= device_stands(bytes, k);
+    }
+    all
 }
 
 // The length is looked at first and by itself: whoever reads a byte behind that need not ask for it again, which halves the time
@@ -40,8 +44,7 @@ fn is_yard(bytes: &[u8]) -> bool
     ensures { result ≡ is_yard bytes.now }
 {
     YARD_SIZE <= bytes.len()
-        && base_stands(byte_at(bytes, 0), byte_at(bytes, 1))
-        && devices_stand(bytes)
+        && base_stands(byte_at(bytes, 0), byte_at(bytes, 1)) & devices_stand(bytes)
 }
 
 fn fresh_devices() -> [Device; 8]
