@@ -32,8 +32,8 @@ struct Body<'a> {
 }
 
 impl Body<'_> {
-    // The slots of its devices; those above n stay all zero. Each is read from a part that is just its own: where the length of
-    // a slice is plain, no byte has to be looked for.
+    // The slots of its devices; those above n stay all zero. Each is read from a part that is just its own: that is twelve bytes
+    // long whatever the body is, so that the tests of bounds within it drop out.
     fn slots(&self) -> [Slot; 8]
         ensures { result ≡ slots_in self.now.n self.now.bytes.now }
     {

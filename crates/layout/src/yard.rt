@@ -18,7 +18,6 @@ pub fn device_start(k: u8) -> usize
     8 + 4 * usize::from(k)
 }
 
-// Stays: a place beside the buffer, for `Written` says where the bytes end also past the buffer's end.
 fn put_pair(first: u8, second: u8, out: &mut [u8], at: usize)
     ensures { Written out.old at (first ∷ second ∷ []) out.new (at + 2) }
 {

@@ -12,11 +12,10 @@ use rolls::{record_at, records};
 use rules::{Plan, Record, Yard};
 use text::Pen;
 
-#[tactic(auto, unfolding(laws::specs::Bits::bit))]
 fn down_lost(r: Record) -> bool
     ensures { result ≡ down_lost r }
 {
-    r.flags / 2 % 2 == 1
+    pace::bit(r.flags, 1)
 }
 
 // As many ticks of a roll that is not refused as have room for their lines.

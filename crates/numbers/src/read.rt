@@ -1,5 +1,5 @@
 // Numbers read from a slice, at any place: past the end each byte is 0.
-// Stays: a place beside the slice: there is no part `s[at..]` of it past the end, where `num16` and `num32` say what is read.
+// Stays: a place beside the slice: the contracts are about any place, and past the end there is no part `s[at..]` to hand on.
 ghost use Rattle.std.specs.Prelude.{◌≡◌, ◌+◌, ◌*◌, get_or};
 ghost use Rattle.numbers.specs.Bytes.{num16, num32};
 

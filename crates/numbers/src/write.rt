@@ -1,6 +1,6 @@
 // Numbers written into a buffer, at any place: nothing is written past the end, and every other byte keeps its value.
-// Stays: a place beside the buffer and no pen as in `text`: `Written` says where a number ends also past the buffer's end, where
-// a pen stops.
+// Stays: a place beside the buffer: the contracts are about any place, past the end too, where `out[at..]` is no part and a pen,
+// as in `text`, would stand still.
 ghost use Rattle.std.specs.Prelude.{◌+◌};
 ghost use Rattle.laws.specs.Written.{Written};
 ghost use Rattle.numbers.specs.Bytes.{two_bytes, four_bytes};

@@ -2,6 +2,7 @@
 // is then where the next one goes.
 //
 // Every method here is total: what has no room is cut off, and nothing is written past the end. None has a `requires`.
+// Stays: a pen and no `Display`: `Lays` fixes each byte of a lent buffer that may be too short; a `Formatter` answers an error there.
 #![tactic(auto)]
 
 ghost use Rattle.std.specs.Prelude.{[], ◌∷◌, ◌≡◌};

@@ -35,8 +35,8 @@ fn read_trailer(ten: &[u8]) -> Trailer
     }
 }
 
-// The trailer in a file's last ten bytes; in all of them where there are fewer. Where a part's length is plain, no byte of it has
-// to be looked for.
+// The trailer in a file's last ten bytes; in all of them where there are fewer. The ten are a part of their own: its length is
+// known when the program is built, so that the tests of bounds drop out.
 pub fn trailer_of(file: &[u8]) -> Trailer
     ensures { result ≡ trailer_of file.now }
 {
@@ -60,7 +60,7 @@ fn is_body_size(size: u16) -> bool
     ensures { result ≡ is_body_size size }
 {
     let n = devices_for(size);
-    (2 <= n) & (n <= 8) & (size == 8 + 12 * n)
+    (2..=8).contains(&n) && size == 8 + 12 * n
 }
 
 // The verdict on a trailer in a file of len bytes. A distance may be any four-byte number: it is compared, never added to.
@@ -68,7 +68,7 @@ fn is_body_size(size: u16) -> bool
 pub fn judge(len: usize, t: Trailer) -> Verdict
     ensures { result ≡ trailer_verdict len t }
 {
-    if (len < 42) | (65536 < len) {
+    if !(42..=65536).contains(&len) {
         return refusal(14);
     }
     if t.mark != MARK {
@@ -82,7 +82,7 @@ pub fn judge(len: usize, t: Trailer) -> Verdict
     }
     let size = usize::from(t.size);
     let back = t.back as usize;
-    if (back < size + 10) | (len < back) {
+    if !(size + 10..=len).contains(&back) {
         return refusal(18);
     }
     Ok(())
@@ -103,7 +103,7 @@ pub fn trailer_for(n: u8) -> Trailer
 }
 
 // A trailer's ten bytes, from a place on.
-// Stays: a place beside the buffer, for `Written` says where the bytes end also past the buffer's end.
+// Stays: a place beside the buffer: the contract is about any place, past the end too, where `out[at..]` is no part.
 #[tactic(auto, using(laws::proofs::Writes::past_end, laws::proofs::Writes::then_more), unfolding(planfile_rules::specs::Writing::trailer_bytes, numbers::specs::Bytes::two_bytes, numbers::specs::Bytes::four_bytes))]
 pub fn put_trailer(t: Trailer, out: &mut [u8], at: usize)
     ensures { Written out.old at (trailer_bytes t) out.new (at + 10) }
