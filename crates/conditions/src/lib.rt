@@ -2,6 +2,8 @@
 // function here has a `requires`.
 //
 // At each index the lines that are asked there are tried in the table's order. The answer is the first that is broken.
+//
+// Stays: `&` between tests, and not `&&`, with which a plan's check took a third more time (`./measure`).
 #![tactic(auto)]
 
 ghost use Rattle.std.specs.Prelude.{◌≡◌, ◌*◌};
@@ -64,10 +66,11 @@ fn no_spacing(s: Slot) -> bool
     (s.G == 0) & (s.S == 0)
 }
 
+// Stays: `s == Slot::default()` proves, but a plan's check took a fifth more time with it (`./measure`).
 fn all_zero(s: Slot) -> bool
     ensures { result ≡ all_zero s }
 {
-    s == Slot::default()
+    (s.F == 0) & (s.E == 0) & (s.R == 0) & (s.X == 0) & (s.G == 0) & (s.S == 0)
 }
 
 fn c5(s: Slot, next: Slot) -> bool
