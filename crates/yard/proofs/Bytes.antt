@@ -1,5 +1,6 @@
 -- The byte of the devices that are engaged, when one device changes.
-use Rattle.std.proofs.Common.{ℕ, zero, suc, ◌+◌, ◌^◌, ◌≤◌, ◌<◌, arith, add-one, ◌≡◌, refl, sym, ap, Bool, cond, List, eqb, length, get_or, set, pow_mono, get_or-set_same, get_or-set_other, eqb-true}
+use Rattle.std.proofs.Common.{ℕ, zero, suc, ◌+◌, ◌^◌, ◌≤◌, ◌<◌, arith, add-one, ◌≡◌, refl, sym, ap, Bool, cond, List, eqb, length, get_or, set, take, pow_mono, get_or-set_same, get_or-set_other, eqb-true}
+use Rattle.std.proofs.lemmas.List.{length-take, get_or-take}
 use Rattle.laws.specs.Bits.{of_bits}
 use Rattle.laws.proofs.Bits.{of_bits_below, of_bits_same}
 use Rattle.laws.proofs.Tests.{case, tests}
@@ -62,12 +63,15 @@ module _ (n k : ℕ) (ds : List Device) (low : k < n) where
     byte_fits x few =
         omega (arith, byte_set x, byte_small (set ds k x) n few)
 
--- Put together, from none on, one bit further.
+-- Put together from the first n devices, from none on, one bit further.
 pub byte_none : (ds : List Device) → byte_of 0 ds ≡ 0
 unfolding of_bits
 byte_none ds = refl
 
 pub byte_next :
-    (ds : List Device) (k : ℕ) → byte_of (k + 1) ds ≡ byte_of k ds + bit_of k (get_or ds k fresh_device)
+    (ds : List Device) (n k : ℕ) → k < length (take n ds)
+    → (k < n) × (byte_of (k + 1) ds ≡ byte_of k ds + bit_of k (get_or (take n ds) k fresh_device))
 unfolding of_bits
-byte_next ds k = rw (add-one k, back k)
+byte_next ds n k h =
+    let low : k < n = omega (arith, length-take n ds) in
+    (low, rw (add-one k, back k, get_or-take n ds k fresh_device low))

@@ -21,8 +21,8 @@ pub(crate) fn engaged_byte(n: usize, devices: [Device; 8]) -> u8
     ensures { result ≡ byte_of n devices }
 {
     let mut byte = 0;
-    for k in 0..n {
-        byte += engaged_bit(k, devices[k]);
+    for (k, d) in devices[..n].iter().enumerate() {
+        byte += engaged_bit(k, *d);
     }
     byte
 }
