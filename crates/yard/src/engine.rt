@@ -93,7 +93,7 @@ pub(crate) fn roll_on(p: Plan, y: Yard, roll: &[u8], ticks: usize, engaged: &mut
     // The byte changes only where a device moves. To read a device whose clock has just been stored would cost more than all
     // else in a tick in which nothing is due.
     let mut byte = engaged_byte(last + 1, devices);
-    for k in 0..ticks {
+    for (k, kept) in engaged[..ticks].iter_mut().enumerate() {
         let r = record_at(roll, k);
         let own = own_index(supervisor);
         let mut from_own = None;
@@ -133,7 +133,7 @@ pub(crate) fn roll_on(p: Plan, y: Yard, roll: &[u8], ticks: usize, engaged: &mut
             let at = index_of(to);
             devices[at] = arrive(p.slots[at], r.willing, supervisor, to, devices[at]);
         }
-        engaged[k] = byte;
+        *kept = byte;
     }
     Stepped {
         yard: Yard {

@@ -41,7 +41,7 @@ loop-k-init c =
     let names : c.terms_of-t.result.N ≡ a.p.N = ap (λ (t : Terms). t.N) c.terms_of-t.ensures in
     let all : c.index_of-last.result + 1 ≡ a.p.N = omega (arith, c.index_of-last.ensures, fit.some, names) in
     let eight : length a.y.devices ≡ 8 = search rules in
-    loop.starts a.p a.y a.roll.now a.engaged.now _ c.requires.sound.0 c.requires.sound.1 _
+    loop.starts a.p a.y a.roll.now _ _ c.requires.sound.0 c.requires.sound.1 _
     eight all c.engaged_byte-byte.ensures
 
 pub loop-i-init : goal.loop-i-init
@@ -137,5 +137,5 @@ loop-k-preserved c =
     ] in
     let yard = ticked p y r last own n own_is own_in left _ _ _ byte m come.0 come.1 m_is end.0 in
     let down = sends p y r last own n own_is own_in left _ _ _ byte m come.0 come.1 m_is end.0 in
-    rolls p a.y a.roll.now a.engaged.now last c.requires.sound.0 c.requires.sound.1 _ y _ _ _ _ _ byte r
-    c.loop-k.invariant (omega (arith, c.requires.ticks_in_bounds)) c.record_at-r.ensures yard down end.1
+    rolls p a.y a.roll.now _ last c.requires.sound.0 c.requires.sound.1 _ y _ _ _ _ _ byte r
+    c.loop-k.invariant c.loop-k-test.true c.record_at-r.ensures yard down end.1

@@ -20,4 +20,4 @@ invariant-loop-i l =
 
 abbrev pub invariant-loop-k : goal.invariant-loop-k
 invariant-loop-k l =
-    Rolled l.p (yard_of l.initial.supervisor l.initial.devices) l.roll l.initial.engaged l.last l.k (yard_of l.supervisor l.devices) l.supervisor.down l.engaged l.byte
+    Rolled l.p (yard_of l.initial.supervisor l.initial.devices) l.roll l.initial.kept-items l.last l.k (yard_of l.supervisor l.devices) l.supervisor.down l.kept-items l.byte
