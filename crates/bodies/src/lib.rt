@@ -12,14 +12,17 @@ use file_answers::empty_plan;
 use numbers::read::two_at;
 use numbers::write::put_two;
 use rules::{Plan, Slot};
-use slots::{put_slot, slot_in};
+use slots::{SLOT_SIZE, put_slot, slot_in};
+
+// N, W, B and Q, before the first slot.
+const HEAD_SIZE: usize = 8;
 
 // Whether so many bytes have room for a body of n devices.
 #[tactic(auto, using(crate::proofs::Rooms::too_many, crate::proofs::Rooms::few))]
 fn has_room(n: usize, room: usize) -> bool
     ensures { result ≡ body_fits n room }
 {
-    n <= 8 && 8 + 12 * n <= room
+    n <= 8 && HEAD_SIZE + SLOT_SIZE * n <= room
 }
 
 // The bytes of a body, and how many devices have room in them.
@@ -39,8 +42,8 @@ impl Body<'_> {
     {
         let mut slots = empty_plan().slots;
         for k in 0..self.n {
-            let at = 8 + 12 * k;
-            slots[k] = slot_in(&self.bytes[at..at + 12]);
+            let at = HEAD_SIZE + SLOT_SIZE * k;
+            slots[k] = slot_in(&self.bytes[at..at + SLOT_SIZE]);
         }
         slots
     }
@@ -76,8 +79,8 @@ fn put_slots(slots: [Slot; 8], n: usize, out: &mut [u8])
     ensures { Written out.old 8 (slots_bytes slots n) out.new (8 + 12 * n) × (length slots ≡ 8) }
 {
     for j in 0..n {
-        let at = 8 + 12 * j;
-        put_slot(slots[j], &mut out[at..at + 12]);
+        let at = HEAD_SIZE + SLOT_SIZE * j;
+        put_slot(slots[j], &mut out[at..at + SLOT_SIZE]);
     }
 }
 
@@ -96,10 +99,10 @@ pub fn put_body(p: Plan, n: usize, out: &mut [u8]) -> usize
     put_two(p.B, out, 4);
     put_two(p.Q, out, 6);
     put_slots(p.slots, n, out);
-    8 + 12 * n
+    HEAD_SIZE + SLOT_SIZE * n
 }
 
-pub const PLAN_SIZE: usize = 104;
+pub const PLAN_SIZE: usize = HEAD_SIZE + 8 * SLOT_SIZE;
 
 // The plan in so many bytes: a body with all eight slots, those above N included, as callers in other languages lend it. It is
 // not checked. Of another length, an all-zero plan, which the check refuses.

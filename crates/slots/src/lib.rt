@@ -11,6 +11,8 @@ use numbers::read::two_at;
 use numbers::write::put_two;
 use rules::Slot;
 
+pub const SLOT_SIZE: usize = 12;
+
 // A device's six times, from its twelve bytes.
 #[tactic(auto, unfolding(planfile_rules::specs::File::slot_in))]
 pub fn slot_in(twelve: &[u8]) -> Slot

@@ -16,6 +16,11 @@ use rules::{Refusal, Verdict};
 // The bytes 59 50 hex, little-endian.
 const MARK: u16 = 0x5059;
 
+// The bytes of a body before its first slot, and those of a slot.
+const HEAD_SIZE: u16 = 8;
+
+const SLOT_SIZE: u16 = 12;
+
 // Every refusal of a file that is not the plan check's has index 0.
 pub fn refusal(number: u8) -> Verdict
     ensures { result ≡ verdict.Refused number 0 }
@@ -52,7 +57,7 @@ pub fn trailer_of(file: &[u8]) -> Trailer
 pub fn devices_for(size: u16) -> u16
     ensures { result ≡ devices_for size }
 {
-    size.saturating_sub(8) / 12
+    size.saturating_sub(HEAD_SIZE) / SLOT_SIZE
 }
 
 #[tactic(auto, unfolding(planfile_rules::specs::File::devices_for, planfile_rules::specs::File::is_body_size))]
@@ -60,7 +65,7 @@ fn is_body_size(size: u16) -> bool
     ensures { result ≡ is_body_size size }
 {
     let n = devices_for(size);
-    (2..=8).contains(&n) && size == 8 + 12 * n
+    (2..=8).contains(&n) && size == HEAD_SIZE + SLOT_SIZE * n
 }
 
 // The verdict on a trailer in a file of len bytes. A distance may be any four-byte number: it is compared, never added to.
@@ -93,7 +98,7 @@ pub fn judge(len: usize, t: Trailer) -> Verdict
 pub fn trailer_for(n: u8) -> Trailer
     ensures { result ≡ trailer_for n }
 {
-    let size = 8 + 12 * u16::from(n);
+    let size = HEAD_SIZE + SLOT_SIZE * u16::from(n);
     Trailer {
         size,
         version: 1,
