@@ -1,11 +1,10 @@
 // A yard as bytes: where the base stands, its device, the place clock (2), the lease clock (4), then for each of the eight
 // devices its clock (2), its place and its letter.
-ghost use Rattle.std.specs.Prelude.{◌≡◌, [], ◌∷◌, ◌++◌, ◌+◌, length, drop};
+ghost use Rattle.std.specs.Prelude.{◌≡◌, ◌++◌, ◌+◌, length, drop};
 ghost use Rattle.laws.specs.Written.{Written};
 ghost use Rattle.layout_rules.specs.Bytes.{device_bytes, devices_bytes, device_start, yard_size, yard_written};
 
-use numbers::read::two;
-use numbers::write::{put_four, put_two};
+use numbers::write::{put_bytes, put_four, put_two};
 use rules::{Device, Yard};
 use vocabulary::{base_index, base_number, letter_number, place_number};
 
@@ -18,18 +17,12 @@ pub fn device_start(k: u8) -> usize
     8 + 4 * usize::from(k)
 }
 
-fn put_pair(first: u8, second: u8, out: &mut [u8], at: usize)
-    ensures { Written out.old at (first ∷ second ∷ []) out.new (at + 2) }
-{
-    put_two(two(first, second), out, at);
-}
-
 fn put_device(d: Device, out: &mut [u8], k: u8)
     ensures { Written out.old (device_start (k + 1)) (device_bytes d) out.new (device_start (k + 1) + 4) }
 {
     let at = device_start(k);
     put_two(d.clock, out, at);
-    put_pair(place_number(d.place), letter_number(d.letter), out, at + 2);
+    put_bytes([place_number(d.place), letter_number(d.letter)], out, at + 2);
 }
 
 fn put_devices(devices: [Device; 8], out: &mut [u8])
@@ -50,7 +43,7 @@ pub fn put(y: Yard, out: &mut [u8]) -> usize
     if out.len() < YARD_SIZE {
         return 0;
     }
-    put_pair(base_number(y.base), base_index(y.base), out, 0);
+    put_bytes([base_number(y.base), base_index(y.base)], out, 0);
     put_two(y.clock, out, 2);
     put_four(y.lease, out, 4);
     put_devices(y.devices, out);

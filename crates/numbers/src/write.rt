@@ -5,27 +5,25 @@ ghost use Rattle.std.specs.Prelude.{◌+◌};
 ghost use Rattle.laws.specs.Written.{Written};
 ghost use Rattle.numbers.specs.Bytes.{two_bytes, four_bytes};
 
-#[tactic(auto, using(laws::proofs::Writes::past_end, laws::proofs::Writes::two_bytes_lem, laws::proofs::Writes::first_byte), unfolding(crate::specs::Bytes::two_bytes))]
-pub fn put_two(x: u16, out: &mut [u8], at: usize)
-    ensures { Written out.old at (two_bytes x) out.new (at + 2) }
+pub fn put_bytes<const N: usize>(bytes: [u8; N], out: &mut [u8], at: usize)
+    ensures { Written out.old at bytes.entry out.new (at + N) }
 {
-    let [low, high] = x.to_le_bytes();
-    if out.len() <= at {
-        return;
-    }
-    out[at] = low;
-    if at + 1 < out.len() {
-        out[at + 1] = high;
+    let room = out.len().saturating_sub(at);
+    for k in 0..N {
+        if k < room {
+            out[at + k] = bytes[k];
+        }
     }
 }
 
-#[tactic(auto, using(laws::proofs::Writes::past_end, laws::proofs::Writes::then_more), unfolding(crate::specs::Bytes::two_bytes, crate::specs::Bytes::four_bytes))]
+pub fn put_two(x: u16, out: &mut [u8], at: usize)
+    ensures { Written out.old at (two_bytes x) out.new (at + 2) }
+{
+    put_bytes(x.to_le_bytes(), out, at);
+}
+
 pub fn put_four(x: u32, out: &mut [u8], at: usize)
     ensures { Written out.old at (four_bytes x) out.new (at + 4) }
 {
-    if out.len() <= at {
-        return;
-    }
-    put_two((x % 65536) as u16, out, at);
-    put_two((x / 65536) as u16, out, at + 2);
+    put_bytes(x.to_le_bytes(), out, at);
 }

@@ -7,7 +7,7 @@ pub returns : goal.returns
 unfolding device_bytes
 returns c =
     let clock = c.put_two.ensures in
-    let marks = c.put_pair.ensures in
+    let marks = c.put_bytes.ensures in
     let place = c.place_number.ensures in
     let letter = c.letter_number.ensures in
     let start = c.device_start-at.ensures in
