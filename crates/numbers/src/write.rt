@@ -5,6 +5,7 @@ ghost use Rattle.std.specs.Prelude.{◌+◌};
 ghost use Rattle.laws.specs.Written.{Written};
 ghost use Rattle.numbers.specs.Bytes.{two_bytes, four_bytes};
 
+// The bytes from a place on, as many as have room.
 pub fn put_bytes<const N: usize>(bytes: [u8; N], out: &mut [u8], at: usize)
     ensures { Written out.old at bytes.entry out.new (at + N) }
 {
