@@ -22,7 +22,11 @@ fn put_device(d: Device, out: &mut [u8], k: u8)
 {
     let at = device_start(k);
     put_two(d.clock, out, at);
-    put_bytes([place_number(d.place), letter_number(d.letter)], out, at + 2);
+    put_bytes(
+        [place_number(d.place), letter_number(d.letter)],
+        out,
+        at + 2,
+    );
 }
 
 fn put_devices(devices: [Device; 8], out: &mut [u8])
