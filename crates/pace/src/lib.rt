@@ -74,23 +74,26 @@ pub struct Risen {
     pub heard: Option<Letter>,
 }
 
-// Stays: seven parameters: `device::moved`, which document 01's step 2 is, takes the first four and the device.
-// The device at i, whose clock has moved: it moves, and its letter goes up, and is lost where bit i of `lost` says so.
-pub fn goes_up(
-    q: u16,
-    s: Slot,
-    initializer: bool,
-    command: u8,
-    lost: u8,
-    i: usize,
-    d: Device,
-) -> Risen
-    ensures { result ≡ went_up (bits.bit lost i) (moved q s initializer command d) }
+// What the device at i goes by in a tick: Q and its times, whether it is the initializer, which alone heeds the command, and the
+// record's byte of lost letters, whose bit i is its own.
+#[derive(Clone, Copy)]
+pub struct Turn {
+    pub i: usize,
+    pub Q: u16,
+    pub slot: Slot,
+    pub initializer: bool,
+    pub command: u8,
+    pub lost: u8,
+}
+
+// A device whose clock has moved: it moves, and its letter goes up, and is lost where the turn says so.
+pub fn goes_up(t: Turn, d: Device) -> Risen
+    ensures { result ≡ went_up (bits.bit t.lost t.i) (moved t.Q t.slot t.initializer t.command d) }
 {
-    let m = device::moved(q, s, initializer, command, d);
+    let m = device::moved(t.Q, t.slot, t.initializer, t.command, d);
     Risen {
         device: device::writes(None, m),
-        heard: heard(bit(lost, i), m.letter),
+        heard: heard(bit(t.lost, t.i), m.letter),
     }
 }
 

@@ -1,7 +1,8 @@
 // Step 1: the clocks that add 1. Callers have seen that the state is well formed, so that no clock is near the end of its
 // type; nothing else in a tick adds to a clock.
 //
-// Stays: each function asks that a clock may add 1: `tick` and `run` take any clocks (refusal 11), so no type promises it.
+// Stays: each function asks that a clock may add 1. As a type's promise it would take three types (the supervisor's two clocks,
+// and a device, whose clock is a plain number in `rules`), each built at the one call in `roll_on` that now shows the fact.
 ghost use Rattle.std.specs.Prelude.{◌≡◌, ◌≤◌};
 ghost use Rattle.rules.specs.Tick.Step1.{place_clock, lease_clock, device_clock};
 ghost use Rattle.pace.specs.Pace.{clocked_by};

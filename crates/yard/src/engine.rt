@@ -23,7 +23,7 @@ use crate::clocks::{lease_clock, place_clock};
 use crate::rising::{pace_of, rise};
 use base::{Clocks, Hearing};
 use lease::lease_length;
-use pace::{arrive, bit, index_of, listen, own_index, reached};
+use pace::{Turn, arrive, bit, index_of, listen, own_index, reached};
 use rolls::record_at;
 use rules::{BaseMove, Device, Down, Letter, Plan, Terms, Yard};
 use times::row_of;
@@ -70,7 +70,8 @@ pub(crate) struct Stepped {
     pub down: Option<Down>,
 }
 
-// Stays: one long function, the initializer's turn apart: tried otherwise, a tick took 1.2 to 4 times as long (DECISIONS, 32).
+// Stays: one long function, the initializer's turn apart. Tried with an older kit, and only with the devices handed over and back
+// by value, a tick took 1.2 to 4 times as long (DECISIONS, 32); turns over one `&mut Device` or `&mut [Device; 8]` were not tried.
 //
 // As many ticks as asked, from a state that is well formed under a plan that is accepted; the buffer has room. Beyond
 // its end a roll has records of zeros.
@@ -102,7 +103,15 @@ pub(crate) fn roll_on(p: Plan, y: Yard, roll: &[u8], ticks: usize, engaged: &mut
             match pace_of(&row, i, 0, devices[i]) {
                 Some(clock) => devices[i].clock = clock,
                 None => {
-                    let up = rise(p.Q, p.slots[i], false, 0, r.lost, i, devices[i]);
+                    let turn = Turn {
+                        i,
+                        Q: p.Q,
+                        slot: p.slots[i],
+                        initializer: false,
+                        command: 0,
+                        lost: r.lost,
+                    };
+                    let up = rise(turn, devices[i]);
                     from_own = listen(i == own, up, from_own);
                     byte = rebit(byte, i, devices[i], up.device);
                     devices[i] = up.device;
@@ -113,15 +122,15 @@ pub(crate) fn roll_on(p: Plan, y: Yard, roll: &[u8], ticks: usize, engaged: &mut
         match pace_of(&row, last, r.command, devices[last]) {
             Some(clock) => devices[last].clock = clock,
             None => {
-                let up = rise(
-                    p.Q,
-                    p.slots[last],
-                    true,
-                    r.command,
-                    r.lost,
-                    last,
-                    devices[last],
-                );
+                let turn = Turn {
+                    i: last,
+                    Q: p.Q,
+                    slot: p.slots[last],
+                    initializer: true,
+                    command: r.command,
+                    lost: r.lost,
+                };
+                let up = rise(turn, devices[last]);
                 from_last = up.heard;
                 from_own = listen(last == own, up, from_own);
                 byte = rebit(byte, last, devices[last], up.device);
