@@ -12,14 +12,14 @@ use rules::{Base, Device, Letter, Place, Plan, Slot, Yard};
 fn is_device(p: Plan, i: u8) -> bool
     ensures { result ≡ is_device p i }
 {
-    (1 <= i) & (u16::from(i) <= p.N)
+    (1 <= i) && (u16::from(i) <= p.N)
 }
 
 #[tactic(auto, using(laws::proofs::Tests::all_is), unfolding(rules::specs::Plan::is_pair))]
 fn is_participant(p: Plan, i: u8) -> bool
     ensures { result ≡ is_participant p i }
 {
-    (1 <= i) & (u16::from(i) < p.N)
+    (1 <= i) && (u16::from(i) < p.N)
 }
 
 #[tactic(auto, unfolding(rules::specs::Yard::index_formed))]
@@ -33,31 +33,31 @@ fn index_formed(p: Plan, base: Base) -> bool
 }
 
 #[tactic(auto, unfolding(rules::specs::Yard::clock_formed))]
-fn clock_formed(p: Plan, base: Base, clock: u16) -> bool
-    ensures { result ≡ clock_formed p base clock }
+fn clock_formed(p: Plan, y: Yard) -> bool
+    ensures { result ≡ clock_formed p y.base y.clock }
 {
-    match base {
-        Base::FallBack => clock <= p.B,
-        Base::Lease(i) if u16::from(i) < p.N => clock < p.W,
-        _ => clock == 0,
+    match y.base {
+        Base::FallBack => y.clock <= p.B,
+        Base::Lease(i) if u16::from(i) < p.N => y.clock < p.W,
+        _ => y.clock == 0,
     }
 }
 
 #[tactic(auto, unfolding(rules::specs::Yard::lease_formed))]
-fn lease_formed(p: Plan, base: Base, lease: u32) -> bool
-    ensures { result ≡ lease_formed p base lease }
+fn lease_formed(p: Plan, y: Yard) -> bool
+    ensures { result ≡ lease_formed p y.base y.lease }
 {
-    match base {
-        Base::FallBack => lease == 0,
-        _ => lease < lease_length(p),
+    match y.base {
+        Base::FallBack => y.lease == 0,
+        _ => y.lease < lease_length(p),
     }
 }
 
 #[tactic(auto, using(laws::proofs::Tests::all_is), unfolding(rules::specs::Yard::base_formed))]
-fn base_formed(p: Plan, base: Base, clock: u16, lease: u32) -> bool
-    ensures { result ≡ base_formed p base clock lease }
+fn base_formed(p: Plan, y: Yard) -> bool
+    ensures { result ≡ base_formed p y.base y.clock y.lease }
 {
-    index_formed(p, base) & clock_formed(p, base, clock) & lease_formed(p, base, lease)
+    index_formed(p, y.base) && clock_formed(p, y) && lease_formed(p, y)
 }
 
 // The place and the clock of device i; its slot is s.
@@ -67,7 +67,7 @@ fn place_formed(p: Plan, i: u8, s: Slot, d: Device) -> bool
 {
     match d.place {
         Place::FallBack => d.clock <= s.F,
-        Place::Requesting => (u16::from(i) == p.N) & (d.clock < p.Q),
+        Place::Requesting => (u16::from(i) == p.N) && (d.clock < p.Q),
         Place::Entering => d.clock < s.E,
         Place::Running => d.clock < s.R,
         Place::Exiting1 | Place::Exiting2 => d.clock < s.X,
@@ -81,9 +81,11 @@ fn letter_formed(p: Plan, i: u8, d: Device) -> bool
     match d.letter {
         None => true,
         Some(Letter::Approve) => is_participant(p, i)
-            & (d.place == Place::Entering)
-            & (d.clock == 0),
-        Some(Letter::Deny) => is_participant(p, i) & (d.place == Place::FallBack) & (d.clock == 0),
+            && (d.place == Place::Entering)
+            && (d.clock == 0),
+        Some(Letter::Deny) => is_participant(p, i)
+            && (d.place == Place::FallBack)
+            && (d.clock == 0),
         Some(Letter::Request | Letter::Cancel | Letter::Exit) => false,
     }
 }
@@ -92,7 +94,7 @@ fn letter_formed(p: Plan, i: u8, d: Device) -> bool
 fn is_fresh(d: Device) -> bool
     ensures { result ≡ is_fresh d }
 {
-    (d.place == Place::FallBack) & (d.clock == 0) & d.letter.is_none()
+    d == Device::default()
 }
 
 #[tactic(auto, using(laws::proofs::Tests::all_is), unfolding(rules::specs::Yard::device_formed))]
@@ -100,7 +102,7 @@ fn device_formed(p: Plan, i: u8, s: Slot, d: Device) -> bool
     ensures { s ≡ slot p i → result ≡ device_formed p i d }
 {
     if u16::from(i) <= p.N {
-        return place_formed(p, i, s, d) & letter_formed(p, i, d);
+        return place_formed(p, i, s, d) && letter_formed(p, i, d);
     }
     is_fresh(d)
 }
@@ -110,9 +112,10 @@ fn device_formed(p: Plan, i: u8, s: Slot, d: Device) -> bool
 pub fn well_formed(p: Plan, y: Yard) -> bool
     ensures { result ≡ well_formed p y }
 {
-    if !base_formed(p, y.base, y.clock, y.lease) {
+    if !base_formed(p, y) {
         return false;
     }
+    // Stays: a slot by its index: over the `zip` of devices and slots, by `all` or by `for`, the goals at the returns stayed open.
     for (k, d) in y.devices.iter().enumerate() {
         if !device_formed(p, k as u8 + 1, p.slots[k], *d) {
             return false;
