@@ -37,6 +37,7 @@ struct Body<'a> {
 impl Body<'_> {
     // The slots of its devices; those above n stay all zero. Each is read from a part that is just its own: that is twelve bytes
     // long whatever the body is, so that the tests of bounds within it drop out.
+    // Stays: an index, and no `zip` with `chunks_exact`: it goes to `n`, which is neither's end.
     fn slots(&self) -> [Slot; 8]
         ensures { result ≡ slots_in self.now.n self.now.bytes.now }
     {
@@ -74,6 +75,7 @@ pub fn plan_in(body: &[u8], n: usize) -> Plan
 }
 
 // The slots of the first n devices, each where a body has it, and written into a part that is just its own.
+// Stays: two facts in a `requires`: this function alone asks for them of a buffer that is written; `Body` has them for readers.
 fn put_slots(slots: [Slot; 8], n: usize, out: &mut [u8])
     requires { (n ≤ 8) × (8 + 12 * n ≤ length out.old) }
     ensures { Written out.old 8 (slots_bytes slots n) out.new (8 + 12 * n) × (length slots ≡ 8) }

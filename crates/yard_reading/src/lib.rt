@@ -27,6 +27,7 @@ fn device_stands(bytes: &[u8], k: u8) -> bool
     (byte_at(bytes, at + 2) <= 5) & (byte_at(bytes, at + 3) <= 5)
 }
 
+// Stays: a `for` over all eight; with `all` in its place, which was tried, a reading takes a seventh more instructions.
 fn devices_stand(bytes: &[u8]) -> bool
     ensures { result ≡ each (device_stands bytes.now) 8 }
 {
@@ -37,8 +38,7 @@ fn devices_stand(bytes: &[u8]) -> bool
     all
 }
 
-// The length is looked at first and by itself: whoever reads a byte behind that need not ask for it again, which halves the time
-// of a reading.
+// The length is looked at first and by itself: whoever reads a byte behind that need not ask for it again.
 #[tactic(auto, unfolding(layout_rules::specs::Reading::is_yard, laws::specs::Tests::all_of))]
 fn is_yard(bytes: &[u8]) -> bool
     ensures { result ≡ is_yard bytes.now }
@@ -78,6 +78,7 @@ fn device_in(bytes: &[u8], k: u8) -> Device
     }
 }
 
+// Stays: a u8 counted here, and no `from_fn`: `device_start` answers for every u8; of a usize its product may not fit.
 fn devices_in(bytes: &[u8]) -> [Device; 8]
     ensures { result ≡ tabulate (device_in bytes.now) 8 }
 {
