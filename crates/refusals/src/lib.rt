@@ -23,7 +23,7 @@ fn state_verdict(p: Plan, y: Yard) -> Verdict
 }
 
 // Is this tick refused? Plan (1 to 9), state (11 at 0), record (10 at 1).
-#[tactic(auto, using(crate::proofs::Chains::tick_after), unfolding(rules::specs::Verdict::first_refusal, rules::specs::Tick::Input::record_verdict, rules::specs::Tick::tick_verdict))]
+#[tactic(auto, unfolding(rules::specs::Verdict::first_refusal, rules::specs::Tick::Input::record_verdict, rules::specs::Tick::tick_verdict))]
 pub fn tick_verdict(p: Plan, y: Yard, r: Record) -> Verdict
     ensures { result ≡ tick_verdict p y r }
 {
@@ -33,7 +33,7 @@ pub fn tick_verdict(p: Plan, y: Yard, r: Record) -> Verdict
 
 // Is this roll refused? Plan (1 to 9), state (11 at 0), the roll's length (12 at 0), its first bad record (10 at its number
 // from 1).
-#[tactic(auto, using(crate::proofs::Chains::roll_after, laws::proofs::Tests::lowest_most), unfolding(rules::specs::Verdict::first_refusal, rules::specs::Run::records_verdict, rules::specs::Run::roll_verdict))]
+#[tactic(auto, using(laws::proofs::Tests::lowest_most), unfolding(rules::specs::Verdict::first_refusal, rules::specs::Run::records_verdict, rules::specs::Run::roll_verdict))]
 pub fn roll_verdict(p: Plan, y: Yard, roll: &[u8]) -> Verdict
     ensures { result ≡ roll_verdict p y roll.now }
 {
