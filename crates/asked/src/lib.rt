@@ -35,9 +35,9 @@ pub fn fresh_for(plan: &[u8], room: usize) -> FreshAnswer
     ensures { result ≡ fresh_for plan.now room }
 {
     let answer = yard::fresh(bodies::whole_plan(plan));
-    match sizes(plan, room) {
-        Ok(()) => answer,
-        verdict => FreshAnswer { verdict, ..answer },
+    FreshAnswer {
+        verdict: sizes(plan, room).and(answer.verdict),
+        ..answer
     }
 }
 
@@ -84,9 +84,9 @@ pub fn read_for(file: &[u8], room: usize) -> ReadAnswer
     ensures { result ≡ read_for file.now room }
 {
     let answer = planfile::read(file);
-    match size_verdict(room == PLAN_SIZE) {
-        Ok(()) => answer,
-        verdict => ReadAnswer { verdict, ..answer },
+    ReadAnswer {
+        verdict: size_verdict(room == PLAN_SIZE).and(answer.verdict),
+        ..answer
     }
 }
 

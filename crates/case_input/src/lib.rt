@@ -10,7 +10,7 @@ use vocabulary::{index_of, number_of};
 
 // Fills a buffer from the input and answers how many bytes it has now: fewer than it holds where the input ends or a read
 // fails. Each turn reads a byte or more, so there are as many as the buffer has bytes.
-// Stays: `rehearsal` has such a loop, but hands a failed read on by `?`; what the programs do needs that here it ends the input.
+// Stays: one loop for this and `rehearsal`'s would answer a count beside a failed read, since there no byte before it counts.
 pub fn fill(input: &mut impl Read, buffer: &mut [u8]) -> usize
     ensures { result ≤ length buffer.new }
 {

@@ -8,7 +8,7 @@ use std::{fs, io};
 
 // Reads to the file's end, or to the buffer's, and answers how many bytes; an error where a read fails, since what came before
 // it is not the file. Each turn reads a byte or more, so there are as many as the buffer has bytes.
-// Stays: `case_input` has such a loop, where a failed read ends the input; what the program does needs that here it is told.
+// Stays: one loop for this and `case_input::fill` would answer a count beside a failed read, for there the bytes before it count.
 fn fill(file: &mut impl Read, buffer: &mut [u8]) -> io::Result<usize>
     ensures { IfOk result (λ done. done ≤ length buffer.new) }
 {
