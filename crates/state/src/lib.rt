@@ -115,7 +115,7 @@ pub fn well_formed(p: Plan, y: Yard) -> bool
     if !base_formed(p, y) {
         return false;
     }
-    // Stays: a slot by its index: over the `zip` of devices and slots, by `all` or by `for`, the goals at the returns stayed open.
+    // Stays: a slot by its index: over the `zip` of devices and slots, by `all` or `for`, goals at the returns stayed open.
     for (k, d) in y.devices.iter().enumerate() {
         if !device_formed(p, k as u8 + 1, p.slots[k], *d) {
             return false;
