@@ -24,11 +24,7 @@ fn place_after(k: usize) -> usize
 fn lower(found: Option<u8>, line: Option<u8>) -> bool
     ensures { result ≡ lower found line }
 {
-    match (found, line) {
-        (None, _) => false,
-        (Some(_), None) => true,
-        (Some(a), Some(b)) => a < b,
-    }
+    found.is_some_and(|a| line.is_none_or(|b| a < b))
 }
 
 // The verdict on a plan: accepted, or the first line of the table that it breaks, with that line's lowest index.
