@@ -130,7 +130,7 @@ pub struct BaseMove {
     pub down: Option<Down>,
 }
 
-// Stays: a verdict beside a value in each answer below, and no `Result` of the value: document 01's refusals answer the value too,
+// Stays: a verdict beside a value in each answer below, no `Result` of the value: document 01's refusals answer the value too,
 // a fresh yard, or the yard as it was given and 0 ticks (`fresh_answer`, `tick_answer`, `run_answer`).
 #[derive(Clone, Copy)]
 pub struct FreshAnswer {
