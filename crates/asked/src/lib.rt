@@ -42,7 +42,7 @@ pub fn fresh_for(plan: &[u8], room: usize) -> FreshAnswer
 }
 
 // Stays: `run_for` and `list_for` are alike, but one function for all would take two closures from each: the answer at right
-// lengths, and how its own type says a refusal. That is all that they have.
+// lengths, and how its own type says a refusal. That is all that they have. Plan and yard are lent as two slices, as C hands them.
 #[tactic(auto, unfolding(exports_rules::specs::Asked::tick_for))]
 pub fn tick_for(plan: &[u8], bytes: &[u8], r: Record) -> TickAnswer
     ensures { result ≡ tick_for plan.now bytes.now r }

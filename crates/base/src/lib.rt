@@ -92,6 +92,7 @@ fn leases(t: Terms, i: u8, lease: u32) -> BaseMove
     goes(Base::Lease(next), lease, Some(down))
 }
 
+// Stays: terms, what is heard, the device and the clocks are handed side by side, as the definitions of step 3 take them.
 #[tactic(auto, unfolding(rules::specs::Tick::Step3::in_fall_back))]
 fn in_fall_back(t: Terms, heard: Hearing, clocks: Clocks) -> BaseMove
     ensures { result ≡ step3.in_fall_back t heard.approved heard.last clocks.place clocks.lease }

@@ -37,7 +37,7 @@ struct Body<'a> {
 impl Body<'_> {
     // The slots of its devices; those above n stay all zero. Each is read from a part that is just its own: that is twelve bytes
     // long whatever the body is, so that the tests of bounds within it drop out.
-    // Stays: an index, and no `zip` with `chunks_exact`: it goes to `n`, which is neither's end.
+    // Stays: an index: `chunks_exact` would need the cut `[HEAD_SIZE..HEAD_SIZE + SLOT_SIZE * n]` first, and a `zip` after it.
     fn slots(&self) -> [Slot; 8]
         ensures { result ≡ slots_in self.now.n self.now.bytes.now }
     {
@@ -64,6 +64,7 @@ impl Body<'_> {
 }
 
 // The plan in a body of n devices, or an all-zero plan where these have no room in it. It is not checked.
+// Stays: no `Option`, here and in `whole_plan`: the definitions answer an all-zero plan, which no check takes.
 #[tactic(auto, using(crate::proofs::Rooms::enough), unfolding(planfile_rules::specs::File::plan_for))]
 pub fn plan_in(body: &[u8], n: usize) -> Plan
     ensures { result ≡ plan_for n body.now }
@@ -75,7 +76,8 @@ pub fn plan_in(body: &[u8], n: usize) -> Plan
 }
 
 // The slots of the first n devices, each where a body has it, and written into a part that is just its own.
-// Stays: two facts in a `requires`: this function alone asks for them of a buffer that is written; `Body` has them for readers.
+// Stays: two facts in a `requires`, here and in `planfile::read_body`: a type for each would be built at its one call. And an
+// index, as in `slots`.
 fn put_slots(slots: [Slot; 8], n: usize, out: &mut [u8])
     requires { (n ≤ 8) × (8 + 12 * n ≤ length out.old) }
     ensures { Written out.old 8 (slots_bytes slots n) out.new (8 + 12 * n) × (length slots ≡ 8) }

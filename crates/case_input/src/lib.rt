@@ -1,5 +1,4 @@
-// The input of the programs that try cases, number by number: little-endian, and 0 where the input has ended. What is read, no
-// contract can say.
+// The input of the programs that try cases, number by number, little-endian. What is read, no contract can say.
 #![tactic(auto)]
 
 ghost use Rattle.std.specs.Prelude.{◌≤◌, length};
@@ -24,6 +23,8 @@ pub fn fill(input: &mut impl Read, buffer: &mut [u8]) -> usize
     done
 }
 
+// Four bytes of the input as a number; those that are not there are 0.
+// Stays: beside `next_number`, which has no number there: both are asked for.
 pub fn number_or_zero(input: &mut impl Read) -> usize {
     let mut b = [0u8; 4];
     fill(input, &mut b);

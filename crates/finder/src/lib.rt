@@ -64,6 +64,7 @@ pub fn locate(file: &[u8], roll: &[u8]) -> Piece
     ensures { result ≡ piece file.now roll.now }
 {
     let answer = planfile::read(file);
+    // Stays: `let .. else`, and the number from the verdict: document 01's form for this place, before the roll is looked at.
     let Ok(()) = answer.verdict else {
         return file_piece(file, number_of(answer.verdict));
     };

@@ -2,7 +2,7 @@
 #![tactic(auto)]
 
 // A part of the file or of the roll: where it starts, and how many bytes it has.
-// Stays: no `Span` in either case, for the definitions `piece` and `Lies` and the theorem `piece_within` name start and len there.
+// Stays: no `Span` in either case: `piece_for`, `Within` and `Lies` take a case's start and length, and a step more is no plainer.
 #[derive(Clone, Copy)]
 pub enum Piece {
     InFile { start: usize, len: usize },

@@ -29,7 +29,7 @@ fn put_device(d: Device, out: &mut [u8], k: u8)
     );
 }
 
-// Stays: a u8 counted here, and no `enumerate`: `device_start` answers for every u8; of a usize its product may not fit.
+// Stays: a u8 counted here: out of `enumerate` comes a usize, which would be narrowed for `device_start`.
 fn put_devices(devices: [Device; 8], out: &mut [u8])
     ensures { Written out.old (device_start 1) (devices_bytes devices 8) out.new yard_size }
 {

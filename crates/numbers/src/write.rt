@@ -17,6 +17,7 @@ pub fn put_bytes<const N: usize>(bytes: [u8; N], out: &mut [u8], at: usize)
     }
 }
 
+// Stays: a function for each width, a line over `put_bytes`, as callers and docs/CONTRACTS.md name them.
 pub fn put_two(x: u16, out: &mut [u8], at: usize)
     ensures { Written out.old at (two_bytes x) out.new (at + 2) }
 {

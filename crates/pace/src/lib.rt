@@ -105,6 +105,7 @@ pub fn listen(here: bool, up: Risen, before: Option<Letter>) -> Option<Letter>
 }
 
 // The device that the down letter reaches, of n: the one that it is for, unless it is lost.
+// Stays: 0 for none is asked of `down_index`: so `reached_by` is defined, and one test passes over the many ticks with no letter.
 pub fn reached(n: u8, flags: u8, s: BaseMove) -> Option<u8>
     ensures device { result ≡ reached_by n (bits.bit flags 1) s.down }
     ensures in_the_yard { IfSome result (λ i. (1 ≤ i) × (i ≤ n)) }
@@ -121,6 +122,7 @@ pub fn reached(n: u8, flags: u8, s: BaseMove) -> Option<u8>
 }
 
 // Where device i stands in an array; there is no device 0, and it stands for device 1.
+// Stays: no `Option`: the contract is `i - 1` for every i, and of Fall-Back's own device nothing is asked (step 3).
 pub fn index_of(i: u8) -> usize
     ensures { result ≡ i - 1 }
 {

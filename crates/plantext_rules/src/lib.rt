@@ -1,4 +1,4 @@
-// A plan as text, for crews: types here, definitions and theorems in specs/. Its reader and its writer stand in `plantext`.
+// A plan as text, for crews: types here, definitions and theorems in specs/. Its reader and its writer are not written yet.
 #![tactic(auto)]
 
 use rules::{Plan, Verdict};
@@ -26,6 +26,7 @@ pub enum Stand {
 
 // The line, counted from 1, and whose it is: the yard's (0), device i's; which of its fields is being read, and what has been
 // read of that field's number.
+// Stays: 0 for the yard and a number for a field: so the definitions of reading count them (`specs/Reading.antt`).
 #[derive(Clone, Copy)]
 pub struct Cursor {
     pub stand: Stand,

@@ -13,6 +13,7 @@ use rolls::{first_bad, left_over, records, valid_record};
 use rules::{Plan, Record, Verdict, Yard};
 use vocabulary::refused_if;
 
+// Stays: plan, state and roll side by side, here and in all calls above: so document 01's calls take them.
 // Is this state refused under this plan? The plan's own refusals (1 to 9), then 11 at 0.
 #[tactic(auto, unfolding(rules::specs::Verdict::first_refusal, rules::specs::Yard::state_verdict))]
 fn state_verdict(p: Plan, y: Yard) -> Verdict

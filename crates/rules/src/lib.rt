@@ -2,7 +2,7 @@
 // There is no running code here but what the derives write. specs/ has document 01 as definitions over these types, proofs/ the
 // theorems that keep the definitions honest, and the crates above have the calls.
 //
-// The first variant of each enum is the one of a fresh yard. Single capitals are document 01's own names.
+// The first variant of `Base` and of `Place` is the one of a fresh yard. Single capitals are document 01's own names.
 #![tactic(auto)]
 
 // The times of one device, in ticks: F (rest), E (enter), R (run), X (exit), and of the pair that it makes with
@@ -90,6 +90,7 @@ pub struct Yard {
 }
 
 // The four bytes of one tick's input, as they stand in a roll.
+// Stays: bytes, the command too, and no enum of commands: a record may hold any byte until refusal 10 has been asked.
 #[derive(Clone, Copy, Debug, Default, PartialEq, Eq)]
 pub struct Record {
     pub command: u8,

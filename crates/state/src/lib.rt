@@ -61,6 +61,7 @@ fn base_formed(p: Plan, y: Yard) -> bool
 }
 
 // The place and the clock of device i; its slot is s.
+// Stays: plan, device's number and slot side by side: the definitions take the number, and the slot is looked up once.
 #[tactic(auto, using(laws::proofs::Tests::all_is), unfolding(rules::specs::Yard::place_formed))]
 fn place_formed(p: Plan, i: u8, s: Slot, d: Device) -> bool
     ensures { s ≡ slot p i → result ≡ place_formed p i d.place d.clock }

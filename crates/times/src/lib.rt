@@ -8,6 +8,7 @@ ghost use Rattle.times.specs.Times.{row_of};
 use rules::Slot;
 
 // The row of all eight slots.
+// Stays: one flat row, as the definition `row_of` is: a look at it is one index.
 #[tactic(auto, using(crate::proofs::Rows::begun, crate::proofs::Rows::slot_written, crate::proofs::Rows::ended))]
 pub fn row_of(q: u16, slots: [Slot; 8]) -> [u16; 48]
     ensures { result ≡ row_of q slots }

@@ -1,8 +1,8 @@
 // Places, letters, bases, down letters and verdicts by number: the vocabulary that comparisons, bytes and text share. A number
-// that stands for nothing is read as the first of its kind; callers that must tell have looked before. No function here has
+// that stands for nothing is read as the first place, the first base, or no letter; callers that must tell have looked before. No function here has
 // a `requires`.
 // Stays: no `From`: DECISIONS 44, numbers stand beside the types in definitions, and code that reads and writes them stands here.
-// Stays: no `TryFrom`: it would answer for less than the contracts (and `VocabularyBack`) do, which take every number.
+// Stays: no `TryFrom`: the contracts of `place_of`, `letter_of` and `base_of` take every number, and it would answer for less.
 #![tactic(auto)]
 
 ghost use Rattle.std.specs.Prelude.{◌≡◌};
@@ -70,7 +70,7 @@ pub fn base_number(base: Base) -> u8
 }
 
 // The device of the base's place; 0 for none.
-// Stays: 0 and no `Option`, here and in `down_index`: this is the number that crosses to C (`include/wilatkhun.h`).
+// Stays: 0 and no `Option`, here and in `down_index`: so the definitions of these names answer, and the number crosses to C.
 pub fn base_index(base: Base) -> u8
     ensures { result ≡ base_index base }
 {

@@ -1,5 +1,5 @@
-// Document 01's worked plans that carry no star: W = 4, G1 = 0, N = 1, N = 9, and the paper's pendulum settings in
-// tenths of a second (5 at 0).
+// Document 01's plan P, and its worked plans that carry no star: W = 4, G1 = 0, N = 1, N = 9, and the paper's pendulum settings
+// in tenths of a second (5 at 0).
 // Each line is number and index.
 #![tactic(auto)]
 
@@ -18,6 +18,7 @@ fn two(N: u16, W: u16, B: u16, Q: u16, one: Slot, other: Slot) -> Plan {
     Plan { N, W, B, Q, slots }
 }
 
+// Stays: no `Display`, as in `rehearsal`; and an accepted plan has a line here, 0 0.
 fn tell(rt: &impl Print, p: Plan) {
     let verdict = plan::check(p);
     let number = number_of(verdict);

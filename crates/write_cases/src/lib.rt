@@ -27,6 +27,7 @@ fn expect_written(input: &mut impl Read, buffer: &mut [u8], len: usize) -> bool 
 
 // Whether what was written, the first `len` bytes of `file`, is read as a plan that is written as these bytes again. After a
 // refusal there is nothing to read.
+// Stays: a length, 0 after a refusal: so the input tells what is written.
 fn comes_back(file: &[u8], len: usize, again: &mut [u8]) -> bool {
     if len == 0 {
         return true;

@@ -14,7 +14,7 @@ fn engaged_bit(k: usize, d: Device) -> u8
 }
 
 // The byte of the first n devices.
-// Stays: n beside the array: document 01 gives each yard eight devices, of which the first n are used.
+// Stays: n beside the array, for the definition `byte_of` counts its first n; of a part, n would be its length in every clause.
 #[tactic(auto, using(crate::proofs::Bytes::byte_none, crate::proofs::Bytes::byte_next))]
 pub(crate) fn engaged_byte(n: usize, devices: [Device; 8]) -> u8
     requires { n ≤ 8 }

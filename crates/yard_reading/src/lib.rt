@@ -54,6 +54,7 @@ fn fresh_devices() -> [Device; 8]
 }
 
 // What other bytes are read as: no plan takes it, for there is no device 0.
+// Stays: a yard and no `None`: `yard_of` is one yard for all bytes that hold none (theorem `malformed_alone`).
 #[tactic(auto, unfolding(layout_rules::specs::Reading::no_yard))]
 fn no_yard() -> Yard
     ensures { result ≡ no_yard }
@@ -78,7 +79,7 @@ fn device_in(bytes: &[u8], k: u8) -> Device
     }
 }
 
-// Stays: a u8 counted here, and no `from_fn`: `device_start` answers for every u8; of a usize its product may not fit.
+// Stays: a u8 counted here: out of `enumerate` or `from_fn` comes a usize, which would be narrowed for `device_start`.
 fn devices_in(bytes: &[u8]) -> [Device; 8]
     ensures { result ≡ tabulate (device_in bytes.now) 8 }
 {
