@@ -1,5 +1,5 @@
 -- The pass of steps 1 and 2 over the devices, one device further: the devices, the letter that is listened for, the byte.
-use Rattle.std.proofs.Common.{Option, ℕ, ◌+◌, ◌*◌, ◌≤◌, ◌<◌, arith, ◌≡◌, refl, sym, ◌∙◌, ap, Bool, true, false, cond, List, eqb, ltb, length, get_or, set, eqb-true, eq-eqb, ne_eqb, ltb-true, ltb-false, lt-ltb, le-ltb}
+use Rattle.std.proofs.Common.{Option, ℕ, ◌+◌, ◌≤◌, ◌<◌, arith, ◌≡◌, refl, sym, ◌∙◌, ap, Bool, true, false, cond, List, eqb, ltb, length, get_or, set, eqb-true, eq-eqb, ne_eqb, ltb-true, ltb-false, lt-ltb, le-ltb}
 use borrow.Author.Tests.{eqb-false}
 use Rattle.laws.specs.Bits.{bit}
 use Rattle.laws.proofs.Tests.{case}
@@ -12,14 +12,16 @@ use Rattle.rules.specs.declared.Device.{Device}
 use Rattle.rules.specs.declared.Letter.{Letter}
 use Rattle.rules.specs.Letters as letter
 use Rattle.rules.specs.Plan.{empty_slot}
-use Rattle.rules.specs.Yard.{writes, clock_at, fresh_device}
+use Rattle.rules.specs.Yard.{writes, fresh_device}
 use Rattle.rules.specs.Numbers.{place_number}
 use Rattle.rules.specs.Tick.Step2.{heed, moved}
-use Rattle.pace.specs.declared.Risen.{Risen}
-use Rattle.pace.specs.Pace.{clocked_by, heard_of, went_up}
+use Rattle.rules.specs.Tick.Step1.{stops_at}
+use Rattle.pace.specs.declared.Turn.{Turn}
+use Rattle.pace.specs.Pace.{clocked_by, heard_of, stirring, pace_by}
+use Rattle.yard.specs.Turned.{rises, time_in, turned, heard_in, listened_in}
 use Rattle.yard.specs.Engaged.{bit_of, byte_of}
 use Rattle.yard.proofs.Sweeps.{sweep, risen_by, back, sweep_length, sweep_start, sweep_here, sweep_next, sweep_done}
-use Rattle.pace.proofs.Quiet.{number_below, Still}
+use Rattle.pace.proofs.Quiet.{number_below, Still, paced}
 use Rattle.yard.proofs.Bytes.{byte_set, byte_has, byte_fits}
 
 -- A plan and a record, where the initializer stands and the device that is listened to, and the devices as they were.
@@ -153,42 +155,60 @@ module _ {o : Pass} {k : ℕ} {now : List Device} {from_own : Option Letter} {by
       own : ℕ
       own = o.own
 
-  -- It has moved.
-  pub moves :
-      (first : Bool) (heeded : ℕ) {up : Risen} {b : ℕ} → Heeds o k first heeded
-      → up ≡ went_up (bit o.input.lost k) (moved o.plan.Q s first heeded (clocked_by s here))
-      → b + bit_of k here ≡ byte + bit_of k up.device
-      → Come o (k + 1) (set now k up.device) (cond (eqb k o.own) up.heard from_own) b × (up.heard ≡ hears o k)
-  moves first heeded {up} {b} heeds rises b_is =
-      let same = does_here first heeded heeds in
-      let heard : up.heard ≡ hears o k = ap (λ (u : Risen). u.heard) rises ∙ ap (λ (d : Device). heard_of (bit o.input.lost k) d.letter) same in
-      (onward up.device up.heard b (ap (λ (u : Risen). u.device) rises ∙ ap (writes letter.none) same) heard b_is, heard)
+  abbrev pub turn_of : Bool → ℕ → Turn
+  turn_of first heeded =
+      record { i = k; Q = o.plan.Q; slot = s; initializer = first; command = heeded; lost = o.input.lost }
 
-  -- Nothing was due: only its clock has moved.
-  pub stays :
-      {heeded clock : ℕ} {row : List ℕ} → Heeds o k true heeded → row ≡ row_of o.plan.Q o.plan.slots
-      → Still (get_or row (6 * k + place_number here.place) 0) heeded here clock
-      → Come o (k + 1) (set now k (clock_at clock here)) from_own byte × (letter.none ≡ hears o k)
-  stays {heeded} {clock} {row} heeds row_is still =
-      let time = time_at o.plan.Q o.plan.slots k (omega arith) (place_number here.place) (number_below here.place) in
-      let same = sym (does_here true heeded heeds) ∙ still.device o.plan.Q s (rw row_is time) in
-      let heard : letter.none ≡ hears o k =
-      rw (same, still.silent) (case (bit o.input.lost k) (λ q. rw q) (λ q. rw q)) in
-      let on = onward (clock_at clock here) letter.none byte (rw same (rw still.silent)) heard refl in
-      let unheard : cond (eqb k o.own) letter.none from_own ≡ from_own =
-      case (eqb k o.own)
-      (λ e. rw e (sym (inv.come.letter ∙ rw (le-ltb o.own k (omega (arith, eqb-true k o.own e))))))
-      (λ e. rw e) in
-      (rw unheard at on, heard)
+  -- It has had its turn. Where only its clock has moved, it had no letter.
+  pub turns :
+      (first : Bool) (heeded : ℕ) {x : Device} {heard l : Option Letter} {b : ℕ} {row : List ℕ}
+      → Heeds o k first heeded → Heeds o k true heeded → row ≡ row_of o.plan.Q o.plan.slots
+      → x ≡ turned (time_in row k here) (turn_of first heeded) here
+      → heard ≡ heard_in (time_in row k here) (turn_of first heeded) here
+      → l ≡ listened_in (time_in row k here) (turn_of first heeded) o.own from_own here
+      → b + bit_of k here ≡ byte + bit_of k x
+      → Come o (k + 1) (set now k x) l b × (heard ≡ hears o k)
+  turns first heeded {x} {heard} {l} {b} {row} heeds alike row_is x_is heard_is l_is b_is =
+      (rw listened (onward x heard b left.0 left.1 b_is), left.1)
+    where
+      time : ℕ
+      time = time_in row k here
+
+      listened : l ≡ cond (eqb k o.own) heard from_own
+      listened =
+          case (stirring time heeded here)
+          (λ q.
+          let up : heard ≡ (rises (turn_of first heeded) here).heard = heard_is ∙ rw q in
+          l_is ∙ rw (q, up))
+          (λ q.
+          let none : heard ≡ letter.none = heard_is ∙ rw q in
+          l_is
+          ∙ rw (q, none)
+          (case (eqb k o.own)
+          (λ e. rw e (inv.come.letter ∙ rw (le-ltb o.own k (omega (arith, eqb-true k o.own e)))))
+          (λ e. rw e)))
+
+      left : (x ≡ writes letter.none there) × (heard ≡ hears o k)
+      left =
+          case (stirring time heeded here)
+          (λ q.
+          let same = does_here first heeded heeds in
+          (x_is ∙ rw q (ap (writes letter.none) same), heard_is ∙ rw q (ap (λ (d : Device). heard_of (bit o.input.lost k) d.letter) same)))
+          (λ q.
+          let still : Still time heeded here (stops_at time here.clock) = rw q at (paced time heeded here {r = pace_by time heeded here} refl) in
+          let of_place = time_at o.plan.Q o.plan.slots k (omega arith) (place_number here.place) (number_below here.place) in
+          let same = sym (does_here true heeded alike) ∙ still.device o.plan.Q s (rw row_is of_place) in
+          let quiet : letter.none ≡ hears o k =
+          rw (same, still.silent) (case (bit o.input.lost k) (λ z. rw z) (λ z. rw z)) in
+          (x_is ∙ rw q (rw same (rw still.silent)), heard_is ∙ rw q quiet))
 
   -- The next device.
   pub next_passed : {next : List Device} {l : Option Letter} {b : ℕ} → k < o.last → Come o (k + 1) next l b → Passed o (k + 1) next l b
   next_passed {next} {l} {b} low come = passed o (k + 1) next l b (omega arith) inv.room come inv.clocks
 
   -- The byte may change at k.
-  pub rebits : (x : Device) → (k < 8) × (bit_of k here ≤ byte) × (byte + bit_of k x < 256 + bit_of k here)
+  pub rebits : (x : Device) → (bit_of k here ≤ byte) × (byte + bit_of k x < 256 + bit_of k here)
   rebits x = (
-    omega arith,
     rw inv.come.byte_is (byte_has (o.last + 1) k now (omega arith)),
     rw inv.come.byte_is (byte_fits (o.last + 1) k now (omega arith) (omega (arith, inv.eight)) x (omega arith)),
   )

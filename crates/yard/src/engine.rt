@@ -7,16 +7,19 @@
 //   3  the letters go up  `pace::goes_up` takes each from its device; then `supervise` (here): `base::base_move`
 //   4  the down letter    `device::arrived`, which `pace::arrive` calls, at the one device that `pace::reached` has found
 // Until its letter is up no device looks at another, so the loop goes from device to device, and not from step to step.
-ghost use Rattle.std.specs.Prelude.{◌≡◌, true, ◌++◌, ◌≤◌, length, drop};
+ghost use Rattle.std.specs.Prelude.{◌≡◌, ◌+◌, ◌<◌, true, ◌++◌, ◌≤◌, length, drop};
 ghost use Rattle.laws.specs.Bits as bits;
 ghost use Rattle.rules.specs.Verdict.{Accepted};
 ghost use Rattle.rules.specs.Plan.{terms};
 ghost use Rattle.rules.specs.Table.{plan_verdict};
+ghost use Rattle.rules.specs.declared.Device.{Device};
 ghost use Rattle.rules.specs.Yard.{well_formed};
 ghost use Rattle.rules.specs.Tick.Step1.{place_clock, lease_clock};
 ghost use Rattle.rules.specs.Tick.Step3.{base_move};
 ghost use Rattle.rules.specs.Run.{after, engaged_bytes};
+ghost use Rattle.yard.specs.Engaged.{bit_of};
 ghost use Rattle.yard.specs.Sent.{last_down};
+ghost use Rattle.yard.specs.Turned.{time_in, turned, heard_in, listened_in};
 
 use crate::bits::{engaged_byte, rebit};
 use crate::clocks::{lease_clock, place_clock};
@@ -70,9 +73,41 @@ pub(crate) struct Stepped {
     pub down: Option<Down>,
 }
 
-// Stays: one long function, the initializer's turn apart. With the devices handed over and back by value a tick took 2 to 4 times as
-// long; what a turn over `&mut` would need is in DECISIONS 32.
-//
+// What is noted as the devices have their turns: what is heard of the one that is listened to, and the byte of those engaged.
+#[derive(Clone, Copy)]
+struct Noted {
+    from_own: Option<Letter>,
+    byte: u8,
+}
+
+// The turn of one device: it moves and its letter goes up, and what is heard of that is answered; most of the time only its
+// clock moves. The byte changes only where the device moves. To read a device whose clock has just been stored would cost more
+// than all else in a tick in which nothing is due.
+fn turn(row: &[u16; 48], t: Turn, own: usize, d: &mut Device, noted: &mut Noted) -> Option<Letter>
+    requires low { (t.i < 8) × (d.old.clock ≤ 36000) }
+    requires byte_fits { (x : Device) → (bit_of t.i d.old ≤ noted.old.byte)
+        × (noted.old.byte + bit_of t.i x < 256 + bit_of t.i d.old) }
+    ensures device { d.new ≡ turned (time_in row.now t.i d.old) t d.old }
+    ensures heard { result ≡ heard_in (time_in row.now t.i d.old) t d.old }
+    ensures from_own { noted.new.from_own ≡ listened_in (time_in row.now t.i d.old) t own noted.old.from_own d.old }
+    ensures byte { noted.new.byte + bit_of t.i d.old ≡ noted.old.byte + bit_of t.i d.new }
+{
+    let before = *d;
+    match pace_of(row, t.i, t.command, before) {
+        Some(clock) => {
+            d.clock = clock;
+            None
+        }
+        None => {
+            let up = rise(t, before);
+            noted.from_own = listen(t.i == own, up, noted.from_own);
+            noted.byte = rebit(noted.byte, t.i, before, up.device);
+            *d = up.device;
+            up.heard
+        }
+    }
+}
+
 // As many ticks as asked, from a state that is well formed under a plan that is accepted; the buffer has room. Beyond
 // its end a roll has records of zeros.
 pub(crate) fn roll_on(p: Plan, y: Yard, roll: &[u8], ticks: usize, engaged: &mut [u8]) -> Stepped
@@ -91,58 +126,41 @@ pub(crate) fn roll_on(p: Plan, y: Yard, roll: &[u8], ticks: usize, engaged: &mut
         lease: y.lease,
         down: None,
     };
-    // The byte changes only where a device moves. To read a device whose clock has just been stored would cost more than all
-    // else in a tick in which nothing is due.
-    let mut byte = engaged_byte(last + 1, devices);
+    let mut noted = Noted {
+        from_own: None,
+        byte: engaged_byte(last + 1, devices),
+    };
     for (k, kept) in engaged[..ticks].iter_mut().enumerate() {
         let r = record_at(roll, k);
         let own = own_index(supervisor);
-        let mut from_own = None;
+        noted.from_own = None;
         // The participants; then the initializer, which alone heeds the command.
         for i in 0..last {
-            match pace_of(&row, i, 0, devices[i]) {
-                Some(clock) => devices[i].clock = clock,
-                None => {
-                    let turn = Turn {
-                        i,
-                        Q: p.Q,
-                        slot: p.slots[i],
-                        initializer: false,
-                        command: 0,
-                        lost: r.lost,
-                    };
-                    let up = rise(turn, devices[i]);
-                    from_own = listen(i == own, up, from_own);
-                    byte = rebit(byte, i, devices[i], up.device);
-                    devices[i] = up.device;
-                }
-            }
+            let participant = Turn {
+                i,
+                Q: p.Q,
+                slot: p.slots[i],
+                initializer: false,
+                command: 0,
+                lost: r.lost,
+            };
+            turn(&row, participant, own, &mut devices[i], &mut noted);
         }
-        let mut from_last = None;
-        match pace_of(&row, last, r.command, devices[last]) {
-            Some(clock) => devices[last].clock = clock,
-            None => {
-                let turn = Turn {
-                    i: last,
-                    Q: p.Q,
-                    slot: p.slots[last],
-                    initializer: true,
-                    command: r.command,
-                    lost: r.lost,
-                };
-                let up = rise(turn, devices[last]);
-                from_last = up.heard;
-                from_own = listen(last == own, up, from_own);
-                byte = rebit(byte, last, devices[last], up.device);
-                devices[last] = up.device;
-            }
-        }
-        supervisor = supervise(t, r.flags, from_last, from_own, supervisor);
+        let initializer = Turn {
+            i: last,
+            Q: p.Q,
+            slot: p.slots[last],
+            initializer: true,
+            command: r.command,
+            lost: r.lost,
+        };
+        let from_last = turn(&row, initializer, own, &mut devices[last], &mut noted);
+        supervisor = supervise(t, r.flags, from_last, noted.from_own, supervisor);
         if let Some(to) = reached(t.N, r.flags, supervisor) {
             let at = index_of(to);
             devices[at] = arrive(p.slots[at], r.willing, supervisor, to, devices[at]);
         }
-        *kept = byte;
+        *kept = noted.byte;
     }
     Stepped {
         yard: Yard {

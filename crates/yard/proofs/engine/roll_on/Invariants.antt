@@ -16,8 +16,8 @@ pass_of p r last own devices = record { plan = p; input = r; last = last; own = 
 
 abbrev pub invariant-loop-i : goal.invariant-loop-i
 invariant-loop-i l =
-    Passed (pass_of l.p l.r l.last l.own l.initial.devices) l.i l.devices l.from_own l.byte
+    Passed (pass_of l.p l.r l.last l.own l.initial.devices) l.i l.devices l.noted.from_own l.noted.byte
 
 abbrev pub invariant-loop-k : goal.invariant-loop-k
 invariant-loop-k l =
-    Rolled l.p (yard_of l.initial.supervisor l.initial.devices) l.roll l.initial.kept-items l.last l.k (yard_of l.supervisor l.devices) l.supervisor.down l.kept-items l.byte
+    Rolled l.p (yard_of l.initial.supervisor l.initial.devices) l.roll l.initial.kept-items l.last l.k (yard_of l.supervisor l.devices) l.supervisor.down l.kept-items l.noted.byte
