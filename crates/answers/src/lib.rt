@@ -34,7 +34,7 @@ pub fn piece_slice(piece: Piece) -> u8
     }
 }
 
-// Stays: a function for each number of a piece (docs/CONTRACTS.md), as `wilatkhun_find` puts each behind its own reference.
+// Stays: start and length by a function each (docs/CONTRACTS.md), as `wilatkhun_find` puts each behind its own reference.
 pub fn piece_start(piece: Piece) -> usize
     ensures { result ≡ start_of piece }
 {

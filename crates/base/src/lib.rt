@@ -92,7 +92,7 @@ fn leases(t: Terms, i: u8, lease: u32) -> BaseMove
     goes(Base::Lease(next), lease, Some(down))
 }
 
-// Stays: terms, what is heard, the device and the clocks are handed side by side, as the definitions of step 3 take them.
+// Stays: terms, hearing, device and clocks side by side: step 3's definitions take the same in this order, each field by itself.
 #[tactic(auto, unfolding(rules::specs::Tick::Step3::in_fall_back))]
 fn in_fall_back(t: Terms, heard: Hearing, clocks: Clocks) -> BaseMove
     ensures { result ≡ step3.in_fall_back t heard.approved heard.last clocks.place clocks.lease }

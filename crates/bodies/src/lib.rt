@@ -76,8 +76,8 @@ pub fn plan_in(body: &[u8], n: usize) -> Plan
 }
 
 // The slots of the first n devices, each where a body has it, and written into a part that is just its own.
-// Stays: two facts in a `requires`, here and in `planfile::read_body`: a type for each would be built at its one call. And an
-// index, as in `slots`.
+// Stays: two facts in a `requires`, here and in `planfile::read_body`: `Body` serves two methods, a type here would serve one
+// function. And an index, as in `slots`.
 fn put_slots(slots: [Slot; 8], n: usize, out: &mut [u8])
     requires { (n ≤ 8) × (8 + 12 * n ≤ length out.old) }
     ensures { Written out.old 8 (slots_bytes slots n) out.new (8 + 12 * n) × (length slots ≡ 8) }

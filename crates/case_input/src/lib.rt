@@ -24,7 +24,7 @@ pub fn fill(input: &mut impl Read, buffer: &mut [u8]) -> usize
 }
 
 // Four bytes of the input as a number; those that are not there are 0.
-// Stays: beside `next_number`, which has no number there: both are asked for.
+// Stays: beside `next_number`: with that one's `unwrap_or(0)`, the bytes of a number that the input cuts short would not count.
 pub fn number_or_zero(input: &mut impl Read) -> usize {
     let mut b = [0u8; 4];
     fill(input, &mut b);

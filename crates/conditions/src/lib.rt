@@ -3,7 +3,7 @@
 //
 // At each index the lines that are asked there are tried in the table's order. The answer is the first that is broken.
 //
-// Stays: `&` between tests, and not `&&`, with which a plan's check took a third more time (`./measure`).
+// Stays: `&` between tests, and not `&&`, with which a plan's check, timed alone, took a third more time.
 #![tactic(auto)]
 
 ghost use Rattle.std.specs.Prelude.{◌≡◌, ◌*◌};
@@ -66,7 +66,7 @@ fn no_spacing(s: Slot) -> bool
     (s.G == 0) & (s.S == 0)
 }
 
-// Stays: `s == Slot::default()` proves, but a plan's check took a fifth more time with it (`./measure`).
+// Stays: `s == Slot::default()` proves, but a plan's check took a fifth more time with it (timed alone).
 fn all_zero(s: Slot) -> bool
     ensures { result ≡ all_zero s }
 {

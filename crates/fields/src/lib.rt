@@ -64,6 +64,7 @@ fn place_at(devices: [Device; 8], k: usize) -> Place
 pub fn places(n: u16, devices: [Device; 8], pen: &mut Pen<'_>)
     ensures { Lays pen.old (spaced (tabulate (λ i. place_text (get_or devices (i - 1) fresh_device).place) n)) pen.new }
 {
+    // Stays: by number: n may pass the eight devices, and those behind them are fresh ones.
     for k in 0..usize::from(n) {
         short(place_byte(place_at(devices, k)), pen);
     }

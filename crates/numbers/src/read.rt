@@ -1,6 +1,6 @@
 // Numbers read from a slice, at any place: past the end each byte is 0.
 // Stays: a place beside the slice: the contracts are about any place, and past the end there is no part `s[at..]` to hand on.
-// Stays: no `bytes_at` of N bytes below `two_at` and `four_at`: it would fill an array byte by byte, where each is one expression.
+// Stays: no `bytes_at` of N bytes below `two_at` and `four_at`: it would fill an array byte by byte; each is a test and a line.
 ghost use Rattle.std.specs.Prelude.{◌≡◌, ◌+◌, ◌*◌, get_or};
 ghost use Rattle.numbers.specs.Bytes.{num16, num32};
 

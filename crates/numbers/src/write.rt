@@ -10,6 +10,7 @@ pub fn put_bytes<const N: usize>(bytes: [u8; N], out: &mut [u8], at: usize)
     ensures { Written out.old at bytes.entry out.new (at + N) }
 {
     let room = out.len().saturating_sub(at);
+    // Stays: by index: a byte that has no room is passed over, and `Written` speaks of places.
     for k in 0..N {
         if k < room {
             out[at + k] = bytes[k];

@@ -37,7 +37,7 @@ pub fn check(p: Plan) -> Verdict
         w: p.W,
         ls: lease_length(p),
     };
-    // Stays: line and index apart until the end: an `Option<Refusal>` kept through the loop doubled a check's time (`./measure`).
+    // Stays: line and index apart until the end: an `Option<Refusal>` kept through the loop more than doubled a check's time.
     let mut line = yardstick.yard_line(p.B, p.Q);
     let mut at: usize = 0;
     for (k, s) in slots.iter().enumerate() {

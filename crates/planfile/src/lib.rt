@@ -19,7 +19,7 @@ use rules::{Plan, Refusal};
 use trailer::{devices_for, judge, put_trailer, refusal, trailer_for, trailer_of};
 
 // The verdict on a body that has room for n devices, beside its plan.
-// Stays: n and its room in a `requires`, as in `bodies::put_slots`: the one caller shows them.
+// Stays: n and its room in a `requires`, as in `bodies::put_slots`: a type that holds them would serve this one function.
 // Stays: as `Result<Plan, Refusal>`, with n beside the place in `body_place`, it is proved, but read-2 is a tenth slower.
 #[tactic(auto, using(bodies::proofs::Rooms::is_read, planfile_rules::proofs::Files::body_refused, planfile_rules::proofs::Files::body_checked))]
 fn read_body(body: &[u8], n: u16) -> ReadAnswer

@@ -77,7 +77,7 @@ pub fn record_at(roll: &[u8], k: usize) -> Record
 }
 
 // The bytes whose bits k and up are zero are those below this: all of them from k = 8 on.
-// Stays: 256 shifted down; 1 shifted up to min k 8 is shifted again at each record, and a run took a tenth longer.
+// Stays: 256 shifted down; with 1 shifted up to min k 8 a run took a tenth longer.
 #[tactic(auto, using(crate::proofs::Bounds::is_bound))]
 fn bound(k: u16) -> u16
     ensures { Bound k result }
@@ -110,6 +110,7 @@ pub fn first_bad(p: Plan, roll: &[u8]) -> usize
     let lost = bound(p.N);
     let count = records(roll);
     // Stays: the number of records for none, and no `Option`: so says `first_bad` of the rules, which `roll_verdict` rests on.
+    // Stays: by number, as `record_at` is asked.
     for k in 0..count {
         if !within(willing, lost, record_at(roll, k)) {
             return k;

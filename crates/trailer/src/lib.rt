@@ -17,7 +17,7 @@ use rules::{Refusal, Verdict};
 const MARK: u16 = 0x5059;
 
 // The bytes of a body before its first slot, and those of a slot.
-// Stays: as in `bodies` and `slots`, but as wide as a trailer's length is.
+// Stays: as in `bodies` and `slots`, which have them as usize: here each would be that one, narrowed to a trailer's u16.
 const HEAD_SIZE: u16 = 8;
 
 const SLOT_SIZE: u16 = 12;
@@ -70,7 +70,7 @@ fn is_body_size(size: u16) -> bool
 }
 
 // The verdict on a trailer in a file of len bytes. A distance may be any four-byte number: it is compared, never added to.
-// Stays: each test with its own `return`, which is as plain as `vocabulary::refused_if(.., 15, 0)?` would be.
+// Stays: each test with its own `return`: `refused_if(.., 15, 0)?` would repeat at each the index 0 that `refusal` says once.
 #[tactic(auto, unfolding(planfile_rules::specs::File::trailer_verdict, rules::specs::Verdict::first_refusal))]
 pub fn judge(len: usize, t: Trailer) -> Verdict
     ensures { result ≡ trailer_verdict len t }

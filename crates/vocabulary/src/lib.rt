@@ -115,7 +115,7 @@ pub fn down_index(l: Option<Down>) -> u8
 }
 
 // A verdict's number and index; 0 at 0 for one that is not a refusal.
-// Stays: two functions of one shape, as document 01's answer is two numbers, and callers take either.
+// Stays: two functions of one shape: document 01's answer is two numbers, and the finder takes the number alone.
 pub fn number_of(v: Verdict) -> u8
     ensures { result ≡ number_of v }
 {

@@ -27,7 +27,7 @@ fn expect_written(input: &mut impl Read, buffer: &mut [u8], len: usize) -> bool 
 
 // Whether what was written, the first `len` bytes of `file`, is read as a plan that is written as these bytes again. After a
 // refusal there is nothing to read.
-// Stays: a length, 0 after a refusal: so the input tells what is written.
+// Stays: a length and no `Option`: each write case of the input has a length (`vectors`), which is 0 after a refusal.
 fn comes_back(file: &[u8], len: usize, again: &mut [u8]) -> bool {
     if len == 0 {
         return true;

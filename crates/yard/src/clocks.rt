@@ -1,8 +1,8 @@
 // Step 1: the clocks that add 1. Callers have seen that the state is well formed, so that no clock is near the end of its
 // type; nothing else in a tick adds to a clock, but `pace::stops_at` below its limit.
 //
-// Stays: each function here, `supervise` and `rise` ask that a clock may add 1. As a type's promise it would take three types (the
-// supervisor's two clocks, and a device, whose clock is a plain number in `rules`), built anew at each tick: no plainer.
+// Stays: each function here, `supervise`, `turn` and `rise` ask that a clock may add 1. As a type's promise it would take three
+// types (the supervisor's two clocks, and a device, whose clock is a plain number in `rules`), built at each tick: no plainer.
 ghost use Rattle.std.specs.Prelude.{◌≡◌, ◌≤◌};
 ghost use Rattle.rules.specs.Tick.Step1.{place_clock, lease_clock, device_clock};
 ghost use Rattle.pace.specs.Pace.{clocked_by};

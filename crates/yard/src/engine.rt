@@ -1,9 +1,9 @@
 // The loop that every tick goes through: the single tick and the run both lend it a roll and a buffer.
 //
 // Document 01's four steps, and where they are done:
-//   1  the clocks         clocks.rt: `clocked` for a device, `place_clock` and `lease_clock` for the supervisor
-//   2  the devices move   `device::moved`, which `pace::goes_up` calls, and `rise` that (rising.rt); `pace::pace_by`, which
-//                         `pace_of` asks (rising.rt), sees where only a clock moves
+//   1  the clocks         of a device: `pace::pace_by`, which `pace_of` asks (rising.rt), where only its clock moves; else
+//                         `clocked`, which `rise` calls; of the supervisor: `place_clock`, `lease_clock` (all in clocks.rt)
+//   2  the devices move   `device::moved`, which `pace::goes_up` calls, and `rise` that (rising.rt)
 //   3  the letters go up  `pace::goes_up` takes each from its device; then `supervise` (here): `base::base_move`
 //   4  the down letter    `device::arrived`, which `pace::arrive` calls, at the one device that `pace::reached` has found
 // Until its letter is up no device looks at another, so the loop goes from device to device, and not from step to step.
@@ -81,8 +81,7 @@ struct Noted {
 }
 
 // The turn of one device: it moves and its letter goes up, and what is heard of that is answered; most of the time only its
-// clock moves. The byte changes only where the device moves. To read a device whose clock has just been stored would cost more
-// than all else in a tick in which nothing is due.
+// clock moves. The byte is made anew only where the device moves; elsewhere its place, and so its bit, is as it was.
 fn turn(row: &[u16; 48], t: Turn, own: usize, d: &mut Device, noted: &mut Noted) -> Option<Letter>
     requires low { (t.i < 8) × (d.old.clock ≤ 36000) }
     requires byte_fits { (x : Device) → (bit_of t.i d.old ≤ noted.old.byte)
@@ -135,6 +134,7 @@ pub(crate) fn roll_on(p: Plan, y: Yard, roll: &[u8], ticks: usize, engaged: &mut
         let own = own_index(supervisor);
         noted.from_own = None;
         // The participants; then the initializer, which alone heeds the command.
+        // Stays: by index: devices, slots and bits share it, and the supervisor's letter finds a device by it too.
         for i in 0..last {
             let participant = Turn {
                 i,
