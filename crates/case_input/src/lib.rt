@@ -40,13 +40,13 @@ fn next_number(input: &mut impl Read) -> Option<usize> {
     Some(u32::from_le_bytes(b) as usize)
 }
 
-// The next byte of the input; none where it has ended.
-pub fn byte(input: &mut impl Read) -> Option<u8> {
+// The next byte of the input; 0 where there is none.
+// Stays: 0 and no `Option`: an input that has given none may give more (a terminal, a read that failed once), so whoever asks
+// for a byte reads on behind it, as `number_or_zero` does.
+pub fn byte(input: &mut impl Read) -> u8 {
     let mut b = [0u8; 1];
-    if fill(input, &mut b) == 0 {
-        return None;
-    }
-    Some(b[0])
+    fill(input, &mut b);
+    b[0]
 }
 
 // The next bytes of the input, as many as a number before them says, at the front of the buffer; none where the input has not as
@@ -62,7 +62,7 @@ pub fn bytes<'a>(input: &mut impl Read, buffer: &'a mut [u8]) -> Option<&'a [u8]
 
 // Whether a verdict has the number (1 byte) and the index (4) that come next.
 pub fn is_said(input: &mut impl Read, v: Verdict) -> bool {
-    let number = byte(input).unwrap_or(0);
+    let number = byte(input);
     let index = number_or_zero(input);
     (number_of(v) == number) & (index_of(v) == index)
 }

@@ -15,10 +15,10 @@ use reads::next_read;
 use std::io::Read;
 use write_cases::next_write;
 
-// Whether the next case comes out right; none where there is no case.
+// Whether the next case comes out right; none where there is no case. At the input's end the kind reads as 0, and no file follows.
 fn next_case(input: &mut impl Read, file: &mut [u8], roll: &mut [u8]) -> Option<bool> {
     // Stays: a match on the kind's byte; two kinds that are read by one function each need no table of closures.
-    match byte(input)? {
+    match byte(input) {
         0 => next_read(input, file, roll),
         1 => next_write(input, file, roll),
         _ => None,

@@ -20,7 +20,7 @@ fn wanted(whole: &[u8], start: usize, len: usize) -> Option<&[u8]> {
 fn right(input: &mut impl Read, file: &[u8], roll: &[u8]) -> bool {
     let v = verdict(file, roll);
     let said = is_said(input, v);
-    let of_roll = byte(input) == Some(1);
+    let of_roll = byte(input) == 1;
     let start = number_or_zero(input);
     let len = number_or_zero(input);
     let found = finder::find(file, roll);
