@@ -24,7 +24,7 @@ pub fn header(n: u16, out: &mut [u8], at: usize) -> usize
     ensures value { result ≡ at + length (header_written n (length out.old) at) }
     ensures out_after { out.new ≡ header_buffer n out.old at }
 {
-    if 8 < n || out.len().saturating_sub(at) < LINE_ROOM {
+    if 8 < n || out.len() < LINE_ROOM || out.len() - LINE_ROOM < at {
         return at;
     }
     let mut pen = Pen::new(out, at);

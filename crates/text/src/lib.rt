@@ -7,6 +7,7 @@
 
 ghost use Rattle.std.specs.Prelude.{[], ◌∷◌, ◌≡◌};
 ghost use Rattle.text_rules.specs.Decimal.{decimal};
+ghost use Rattle.text_rules.specs.Laid.{Laid};
 ghost use Rattle.text.specs.Lays.{Lays};
 
 // A lent buffer, and the place where its next byte goes.
@@ -42,13 +43,34 @@ impl<'a> Pen<'a> {
         }
     }
 
-    // A number in decimal, with no zero in front. It calls itself for the digits before the last, at most 20 deep.
+    // A number in decimal, with no zero in front.
     pub fn number(&mut self, n: usize)
         ensures { Lays self.old (decimal n) self.new }
     {
-        if 10 <= n {
-            self.number(n / 10);
-        }
-        self.byte(b'0' + (n % 10) as u8);
+        self.at = digits(n, self.out, self.at);
     }
+}
+
+// A byte at a place, and where the next one goes.
+// Stays: a place beside the buffer, as `digits` hands it on.
+fn lay(b: u8, out: &mut [u8], at: usize) -> usize
+    ensures { Laid out.old at (b ∷ []) out.new result }
+{
+    let mut pen = Pen::new(out, at);
+    pen.byte(b);
+    pen.at
+}
+
+// The number's digits from a place on, and where the next byte goes. It calls itself for the digits before the last, at most 20
+// deep.
+// Stays: a place beside the buffer: lent to a function that calls itself, a pen would stand in memory, and each byte of a line
+// would look its place up there, with which a header took two fifths longer.
+fn digits(n: usize, out: &mut [u8], at: usize) -> usize
+    ensures { Laid out.old at (decimal n) out.new result }
+{
+    if n < 10 {
+        return lay(b'0' + n as u8, out, at);
+    }
+    let e = digits(n / 10, out, at);
+    lay(b'0' + (n % 10) as u8, out, e)
 }
