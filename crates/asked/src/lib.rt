@@ -41,21 +41,22 @@ pub fn fresh_for(plan: &[u8], room: usize) -> FreshAnswer
     }
 }
 
+// Stays: the lengths first, the yard read behind them, and by itself for a refusal: `exports` drops a refusal's yard, and only in
+// this form does the compiler see that it need not be read (with the yard read before all else such a call took five times as long).
 // Stays: `run_for` and `list_for` are alike, but one function for all would take two closures from each: the answer at right
 // lengths, and how its own type says a refusal. That is all that they have. Plan and yard are lent as two slices, as C hands them.
 #[tactic(auto, unfolding(exports_rules::specs::Asked::tick_for))]
 pub fn tick_for(plan: &[u8], bytes: &[u8], r: Record) -> TickAnswer
     ensures { result ≡ tick_for plan.now bytes.now r }
 {
-    let yard = yard_reading::read(bytes);
-    match sizes(plan, bytes.len()) {
-        Ok(()) => yard::tick(bodies::whole_plan(plan), yard, r),
-        verdict => TickAnswer {
-            verdict,
-            yard,
+    if let Err(refusal) = sizes(plan, bytes.len()) {
+        return TickAnswer {
+            verdict: Err(refusal),
+            yard: yard_reading::read(bytes),
             down: None,
-        },
+        };
     }
+    yard::tick(bodies::whole_plan(plan), yard_reading::read(bytes), r)
 }
 
 #[tactic(auto, using(exports_rules::proofs::Sizes::nothing_done), unfolding(exports_rules::specs::Asked::run_for, exports_rules::specs::Asked::engaged_for))]
@@ -70,15 +71,20 @@ pub fn run_for(
     ensures engaged_after { engaged.new ≡ engaged_for plan.now bytes.now roll.now budget engaged.old }
     ensures kept { KeptBy plan.now bytes.now engaged.new result.ticks }
 {
-    let yard = yard_reading::read(bytes);
-    match sizes(plan, bytes.len()) {
-        Ok(()) => yard::run(bodies::whole_plan(plan), yard, roll, budget, engaged),
-        verdict => RunAnswer {
-            verdict,
-            yard,
+    if let Err(refusal) = sizes(plan, bytes.len()) {
+        return RunAnswer {
+            verdict: Err(refusal),
+            yard: yard_reading::read(bytes),
             ticks: 0,
-        },
+        };
     }
+    yard::run(
+        bodies::whole_plan(plan),
+        yard_reading::read(bytes),
+        roll,
+        budget,
+        engaged,
+    )
 }
 
 #[tactic(auto, unfolding(exports_rules::specs::Asked::read_for))]
@@ -109,14 +115,19 @@ pub fn list_for(plan: &[u8], bytes: &[u8], roll: &[u8], first: u32, out: &mut [u
     ensures value { result ≡ list_for plan.now bytes.now roll.now first (length out.old) }
     ensures out_after { out.new ≡ text_for plan.now bytes.now roll.now first out.old }
 {
-    let yard = yard_reading::read(bytes);
-    match sizes(plan, bytes.len()) {
-        Ok(()) => listing::list(bodies::whole_plan(plan), yard, roll, first, out),
-        verdict => Listed {
-            verdict,
-            yard,
+    if let Err(refusal) = sizes(plan, bytes.len()) {
+        return Listed {
+            verdict: Err(refusal),
+            yard: yard_reading::read(bytes),
             ticks: 0,
             length: 0,
-        },
+        };
     }
+    listing::list(
+        bodies::whole_plan(plan),
+        yard_reading::read(bytes),
+        roll,
+        first,
+        out,
+    )
 }
