@@ -18,15 +18,16 @@ pub fn put_bytes<const N: usize>(bytes: [u8; N], out: &mut [u8], at: usize)
     }
 }
 
-// Stays: a function for each width, a line over `put_bytes`, as callers and docs/CONTRACTS.md name them.
+// Stays: a function for each width, a line over `put_bytes`, as callers and docs/CONTRACTS.md name them. Each line names its width,
+// so that an edit can turn one of them alone.
 pub fn put_two(x: u16, out: &mut [u8], at: usize)
     ensures { Written out.old at (two_bytes x) out.new (at + 2) }
 {
-    put_bytes(x.to_le_bytes(), out, at);
+    put_bytes(u16::to_le_bytes(x), out, at);
 }
 
 pub fn put_four(x: u32, out: &mut [u8], at: usize)
     ensures { Written out.old at (four_bytes x) out.new (at + 4) }
 {
-    put_bytes(x.to_le_bytes(), out, at);
+    put_bytes(u32::to_le_bytes(x), out, at);
 }
