@@ -1,5 +1,5 @@
--- Places, letters, bases and down letters by number, 0 for the first of each in document 01: the vocabulary that comparisons,
--- bytes and text share. A number that none of them has is read as the first.
+-- Places, letters, bases and down letters by number, 0 for Fall-Back and for no letter: the vocabulary that comparisons, bytes
+-- and text share. A number that none of them has is read as 0 is.
 use Rattle.std.specs.Prelude.{ℕ, cond, eqb, Option}
 use Rattle.rules.specs.declared.Base.{Base}
 use Rattle.rules.specs.declared.Base.TheVariants as base
