@@ -42,7 +42,7 @@ fn next_number(input: &mut impl Read) -> Option<usize> {
 
 // The next byte of the input; 0 where there is none.
 // Stays: 0 and no `Option`: an input that has given none may give more (a terminal, a read that failed once), so whoever asks
-// for a byte reads on behind it, as `number_or_zero` does.
+// for a byte reads on behind it, as behind a number (`number_or_zero`).
 pub fn byte(input: &mut impl Read) -> u8 {
     let mut b = [0u8; 1];
     fill(input, &mut b);
